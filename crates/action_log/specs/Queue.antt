@@ -23,7 +23,8 @@ ticks_before (records.Switch tick ∷ queue) = []
 abbrev pub StandBefore : List Tick → List Record → List Record → Type 0
 StandBefore [] queue left = queue ≡ left
 StandBefore (actions ∷ ticks) [] left = ⊥
-StandBefore (actions ∷ ticks) (records.Tick first ∷ queue) left = (first.list ≡ actions) × StandBefore ticks queue left
+StandBefore (actions ∷ ticks) (records.Tick first ∷ queue) left =
+    (first.list ≡ actions) × StandBefore ticks queue left
 StandBefore (actions ∷ ticks) (records.Switch tick ∷ queue) left = ⊥
 
 -- the number of steps that the records need: four for a tick in its own group, six for a switch
@@ -32,12 +33,14 @@ queue_work [] = 0
 queue_work (records.Tick tick ∷ queue) = 4 + queue_work queue
 queue_work (records.Switch tick ∷ queue) = 6 + queue_work queue
 
--- The records may follow `count` ticks since this base. A switch is at no smaller tick than the last one before it. No
--- segment gets more ticks, or greater tick numbers, than the format takes.
+-- The records may follow `count` ticks since this base. A switch is at no smaller tick than the
+-- last one before it. No segment gets more ticks, or greater tick numbers, than the format takes.
 abbrev pub QueueFits : ℕ → ℕ → List Record → Type 0
 QueueFits base count [] = ⊤
-QueueFits base count (records.Tick tick ∷ queue) = (count < SEGMENT_TICKS) × (base + count < TICK_MAX) × QueueFits base (count + 1) queue
-QueueFits base count (records.Switch tick ∷ queue) = (base + count ≤ tick) × (tick ≤ TICK_MAX) × QueueFits tick 0 queue
+QueueFits base count (records.Tick tick ∷ queue) =
+    (count < SEGMENT_TICKS) × (base + count < TICK_MAX) × QueueFits base (count + 1) queue
+QueueFits base count (records.Switch tick ∷ queue) =
+    (base + count ≤ tick) × (tick ≤ TICK_MAX) × QueueFits tick 0 queue
 
 -- the base after a queue, and the number of ticks since
 pub record QueueEnd : Type 0 where

@@ -1,7 +1,8 @@
 -- The reasons why no further tick may end.
 use Rattle.std.specs.Prelude.{ℕ, Bool, Option, Some, None, nat_le, if◌then◌else◌}
 use Rattle.world_actions.specs.declared.refusal.Refusal.{Refusal}
-use Rattle.world_actions.specs.declared.refusal.Refusal.TheVariants.{LogDown, TicksEnded, SegmentFull}
+use Rattle.world_actions.specs.declared.refusal.Refusal.TheVariants.{LogDown, TicksEnded}
+use Rattle.world_actions.specs.declared.refusal.Refusal.TheVariants.{SegmentFull}
 use Rattle.world_ticks.specs.declared.tick.TheConstants.{TICK_MAX}
 use Rattle.action_log.specs.declared.format.TheConstants.{SEGMENT_TICKS}
 

@@ -1,4 +1,5 @@
--- The ticks of a segment as the program holds them: all their actions in one list, and the end of each tick in it.
+-- The ticks of a segment as the program holds them: all their actions in one list, and the end of
+-- each tick in it.
 use Rattle.std.specs.Prelude.{◌≡◌, ℕ, ◌+◌, ◌-◌, List, [], ◌∷◌, length, take, drop}
 use Rattle.std.specs.List.{flat_map}
 use Rattle.world_actions.specs.declared.action.Action.{Action}
@@ -16,7 +17,8 @@ ends_from start (tick ∷ ticks) = (start + length tick) ∷ ends_from (start + 
 -- the ticks that end at these places; the actions begin at the place `start`
 abbrev pub cut_from : ℕ → List ℕ → List Action → List Tick
 cut_from start [] actions = []
-cut_from start (end ∷ ends) actions = take (end - start) actions ∷ cut_from end ends (drop (end - start) actions)
+cut_from start (end ∷ ends) actions =
+    take (end - start) actions ∷ cut_from end ends (drop (end - start) actions)
 
 -- the actions and the ends of these ticks
 pub record IsListOf (ticks : List Tick) (actions : List Action) (ends : List ℕ) : Type 0 where

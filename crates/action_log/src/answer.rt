@@ -13,9 +13,9 @@ pub enum LogAnswer {
     Down,
 }
 
-/// The proof that every tick up to this one is durable. The ticks above the current segment's base are in that segment.
-/// If a cover gave the receipt, all of them are in the image that its caller knew to be open. Only a keeper of this crate
-/// makes one. Contracts see that tick.
+/// The proof that every tick up to this one is durable. The ticks above the current segment's base
+/// are in that segment. If a cover gave the receipt, all of them are in the image that its caller
+/// knew to be open. Only a keeper of this crate makes one. Contracts see that tick.
 #[derive(Clone, Copy, Debug, PartialEq, Eq)]
 pub struct Receipt {
     tick: u64,

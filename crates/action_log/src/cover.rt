@@ -1,5 +1,6 @@
 ghost use Rattle.std.specs.Prelude.{◌≡◌, take, drop};
-ghost use Rattle.action_log.specs.Cover.{is_switch, is_tick, switch_place, before_switch, has_tick, answer_of};
+ghost use Rattle.action_log.specs.Cover.{is_switch, is_tick, switch_place, before_switch, has_tick};
+ghost use Rattle.action_log.specs.Cover.{answer_of};
 
 use crate::answer::{LogAnswer, Receipt};
 use crate::record::Record;
@@ -7,7 +8,8 @@ use circular_buffer::HeapCircularBuffer;
 
 /// Takes the records before the first switch at this tick, and returns the answer.
 pub fn take_covered(queue: &mut HeapCircularBuffer<Record>, tick: u64) -> LogAnswer
-    ensures answer { result ≡ answer_of tick (take (before_switch tick queue.old.items) queue.old.items) }
+    ensures answer { result
+        ≡ answer_of tick (take (before_switch tick queue.old.items) queue.old.items) }
     ensures left { queue.new.items ≡ drop (before_switch tick queue.old.items) queue.old.items }
     ensures ring { queue.new.capacity ≡ queue.old.capacity }
 {

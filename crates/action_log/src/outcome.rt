@@ -12,9 +12,11 @@ pub enum Outcome {
     TookGroup { failed: bool },
     /// It took a switch from the queue, and made its first call.
     TookSwitch { failed: bool },
-    /// A call succeeded that is neither the first one for a queued record nor the last one of a job.
+    /// A call succeeded that is neither the first one for a queued record nor the
+    /// last one of a job.
     Working,
-    /// The last call of a switch, or of the start, succeeded: the other segment is now the current one.
+    /// The last call of a switch, or of the start, succeeded: the other segment is now
+    /// the current one.
     Switched,
     /// The last call of a group succeeded.
     Acked(Receipt),

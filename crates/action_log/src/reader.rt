@@ -25,12 +25,13 @@ pub enum LogState {
     Open { base: u64, ticks: TickList },
 }
 
-/// Reads a segment of either format, as recovery does. It refuses with `BadLog` exactly if the segment is malformed. It
-/// refuses with `NoMemory` only if the segment has a tick. The segment is judged, and its ticks are counted, before
-/// memory is taken for them.
+/// Reads a segment of either format, as recovery does. It refuses with `BadLog` exactly if the
+/// segment is malformed. It refuses with `NoMemory` only if the segment has a tick. The segment is
+/// judged, and its ticks are counted, before memory is taken for them.
 pub fn read_log(alloc: Global, bytes: &[u8]) -> Result<LogState, Refusal>
     ensures reads { IfOk result (λ state. IsSegment bytes.now (segment_in state)) }
-    ensures refuses { IfErr result (λ refusal. (refusal ≡ Refusal.NoMemory) ⊎ ((refusal ≡ Refusal.BadLog)
+    ensures refuses { IfErr result (λ refusal. (refusal ≡ Refusal.NoMemory)
+        ⊎ ((refusal ≡ Refusal.BadLog)
         × IsSegment bytes.now MalformedSegment)) }
     ensures memory { result ≡ Err Refusal.NoMemory → HasTicks bytes.now }
 {
@@ -52,11 +53,13 @@ pub fn read_log(alloc: Global, bytes: &[u8]) -> Result<LogState, Refusal>
     }
 }
 
-/// Returns the number of groups of an open segment, or `None` if the segment is closed or malformed. It takes no memory.
+/// Returns the number of groups of an open segment, or `None` if the segment is closed or
+/// malformed. It takes no memory.
 pub fn count_groups(bytes: &[u8]) -> Option<usize>
     ensures open { IfSome result (λ count. (base : ℕ) × (ticks : List (List Action))
         × (segment : IsOpenSegment bytes.now base ticks) × (count ≡ length segment.groups)) }
-    ensures each { (base : ℕ) (ticks : List (List Action)) (segment : IsOpenSegment bytes.now base ticks)
+    ensures each { (base : ℕ) (ticks : List (List Action))
+        (segment : IsOpenSegment bytes.now base ticks)
         → result ≡ Some (length segment.groups) }
 {
     match judge(bytes) {

@@ -20,7 +20,8 @@ impl Model for TickList {
 
     ghost view = { λ list. cut_from 0 list.ends.items list.actions.items };
 
-    ghost invariant = { λ list. (ticks : List Tick) × IsListOf ticks list.actions.items list.ends.items };
+    ghost invariant = { λ list. (ticks : List Tick)
+        × IsListOf ticks list.actions.items list.ends.items };
 }
 
 impl TickList {
@@ -62,7 +63,8 @@ impl TickList {
 
     /// Returns the actions of a tick. The first tick is number 0.
     pub fn get(&self, i: usize) -> Option<&[Action]>
-        ensures some { IfSome result (λ tick. (i < length self.now) × (tick.now ≡ get_or self.now i [])) }
+        ensures some { IfSome result (λ tick. (i < length self.now)
+            × (tick.now ≡ get_or self.now i [])) }
         ensures none { IfNone result (length self.now ≤ i) }
     {
         let end = *self.ends.get(i)?;

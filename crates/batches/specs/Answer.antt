@@ -1,5 +1,6 @@
 -- The answers to the requests of a batch, and the text that answers the batch.
-use Rattle.std.specs.Prelude.{ℕ, List, [], ◌∷◌, ◌++◌, Result, Ok, Err, slice_index, decimal, codes, if◌then◌else◌}
+use Rattle.std.specs.Prelude.{ℕ, List, [], ◌∷◌, ◌++◌, Result, Ok, Err, slice_index, decimal, codes}
+use Rattle.std.specs.Prelude.{if◌then◌else◌}
 use Rattle.world_actions.specs.declared.action.Action.{Action}
 use Rattle.world_actions.specs.declared.refusal.Refusal.{Refusal}
 use Rattle.world_actions.specs.declared.refusal.Refusal.TheVariants.{BadCell, BadLine}
@@ -30,7 +31,8 @@ action_answer (Err refusal) = Refused refusal
 -- the answer to a request; that to a read is the word
 abbrev pub answer_of : Play → Request → Answer
 answer_of play (Act action) = action_answer (decision play.words play.accepted action)
-answer_of play (Get cell) = if is_outside play.words cell then Refused BadCell else Word (slice_index play.words cell)
+answer_of play (Get cell) =
+    if is_outside play.words cell then Refused BadCell else Word (slice_index play.words cell)
 answer_of play Bad = Refused BadLine
 
 abbrev pub refusal_text : Refusal → List ℕ
@@ -48,7 +50,8 @@ reply play request = text_of (answer_of play request)
 
 -- the play after an action, by the decision on it
 abbrev pub with_action : Play → Action → Result (List ℕ) Refusal → Play
-with_action play action (Ok words) = record { words = words; accepted = play.accepted ++ action ∷ [] }
+with_action play action (Ok words) =
+    record { words = words; accepted = play.accepted ++ action ∷ [] }
 with_action play action (Err refusal) = play
 
 abbrev pub after_request : Play → Request → Play
@@ -63,7 +66,8 @@ writes_if (Err refusal) writes = []
 
 -- the writes of a request
 abbrev pub writes_by : Play → Request → List Write
-writes_by play (Act action) = writes_if (decision play.words play.accepted action) (writes_of play.words action)
+writes_by play (Act action) =
+    writes_if (decision play.words play.accepted action) (writes_of play.words action)
 writes_by play (Get cell) = []
 writes_by play Bad = []
 
@@ -77,12 +81,14 @@ after_requests play (request ∷ requests) = after_requests (after_request play 
 -- the answer to each request
 abbrev pub answers : Play → List Request → List Answer
 answers play [] = []
-answers play (request ∷ requests) = answer_of play request ∷ answers (after_request play request) requests
+answers play (request ∷ requests) =
+    answer_of play request ∷ answers (after_request play request) requests
 
 -- a space and the reply, for each request
 abbrev pub replies : Play → List Request → List ℕ
 replies play [] = []
-replies play (request ∷ requests) = 32 ∷ (reply play request ++ replies (after_request play request) requests)
+replies play (request ∷ requests) =
+    32 ∷ (reply play request ++ replies (after_request play request) requests)
 
 -- the answers to a batch in this world, one to each request
 abbrev pub answers_of : List Request → List ℕ → List Answer
@@ -90,7 +96,8 @@ answers_of requests words = answers (begun words) requests
 
 -- the line that answers a batch in this world, as the tick of this number
 abbrev pub answer : List Request → List ℕ → ℕ → List ℕ
-answer requests words tick = codes "tick " ++ (decimal tick ++ (58 ∷ (replies (begun words) requests ++ 10 ∷ [])))
+answer requests words tick =
+    codes "tick " ++ (decimal tick ++ (58 ∷ (replies (begun words) requests ++ 10 ∷ [])))
 
 -- the actions that are accepted, in order: they are the tick
 abbrev pub accepted_of : List Request → List ℕ → List Action

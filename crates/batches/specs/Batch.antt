@@ -28,7 +28,8 @@ onto_line b (line ∷ lines) = (b ∷ line) ∷ lines
 -- the lines that end with a newline
 abbrev pub ended_lines : List ℕ → List (List ℕ)
 ended_lines [] = []
-ended_lines (b ∷ bytes) = if b == 10 then [] ∷ ended_lines bytes else onto_line b (ended_lines bytes)
+ended_lines (b ∷ bytes) =
+    if b == 10 then [] ∷ ended_lines bytes else onto_line b (ended_lines bytes)
 
 -- each line means this
 abbrev pub MeanAll : List (List ℕ) → List (Option Command) → Type 0

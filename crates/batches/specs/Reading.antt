@@ -11,14 +11,15 @@ pub record Reading : Type 0 where
   pub requests : List Request
   pub kept : List ℕ
 
--- The bytes end with a whole line, or there are none. Their lines have these meanings, and whatever follows begins a line.
+-- The bytes end with a whole line, or there are none. Their lines have these meanings, and whatever
+-- follows begins a line.
 pub record AreLines (bytes : List ℕ) (meanings : List (Option Command)) : Type 0 where
   pub lines : List (List ℕ)
   pub mean : MeanAll lines meanings
   pub on : (later : List ℕ) → ended_lines (bytes ++ later) ≡ lines ++ ended_lines later
 
--- The bytes since the last batch hold no `end`. These are their requests, which aren't too many, and the kept bytes of the
--- line after them.
+-- The bytes since the last batch hold no `end`. These are their requests, which aren't too many,
+-- and the kept bytes of the line after them.
 pub record IsBegun (bytes : List ℕ) (reading : Reading) : Type 0 where
   pub before : List ℕ
   pub line : List ℕ

@@ -1,10 +1,13 @@
-ghost use Rattle.std.specs.Prelude.{◌≡◌, ◌≢◌, ◌+◌, ◌*◌, ◌≤◌, ◌<◌, ◌++◌, ◌∷◌, [], ℕ, List, length, min, vec_capacity, decimal, codes, Ok, Err, IsOk, OnOk, OnErr, IfOk, IfErr};
+ghost use Rattle.std.specs.Prelude.{◌≡◌, ◌≢◌, ◌+◌, ◌*◌, ◌≤◌, ◌<◌, ◌++◌, ◌∷◌, [], ℕ, List, length};
+ghost use Rattle.std.specs.Prelude.{min, vec_capacity, decimal, codes, Ok, Err, IsOk, OnOk, OnErr};
+ghost use Rattle.std.specs.Prelude.{IfOk, IfErr};
 ghost use Rattle.world_actions.specs.Effect.{Write};
 ghost use Rattle.world_ticks.specs.declared.tick.TheConstants.{TICK_ACTIONS};
 ghost use Rattle.world_ticks.specs.After.{after_actions, accepted_writes};
 ghost use Rattle.world_ticks.specs.Cells.{Performs};
 ghost use Rattle.batches.specs.declared.batch.Request.{Request as Asked};
-ghost use Rattle.batches.specs.Answer.{Play, begun, reply, replies, after_request, after_requests, writes_by, answer, accepted_of, words_after};
+ghost use Rattle.batches.specs.Answer.{Play, begun, reply, replies, after_request, after_requests};
+ghost use Rattle.batches.specs.Answer.{writes_by, answer, accepted_of, words_after};
 
 use crate::batch::{Batch, Request};
 use crate::requests::run_request;
@@ -18,8 +21,9 @@ const FRAME_BYTES: usize = 27;
 /// The bytes of a reply and the space before it, at most.
 const REPLY_BYTES: usize = 22;
 
-/// Runs a batch on a store as the tick of this number, into an empty tick. The line that answers it replaces the content of
-/// `text`. All memory is taken first: if it is refused, store and tick stay as they are.
+/// Runs a batch on a store as the tick of this number, into an empty tick. The line that answers
+/// it replaces the content of `text`. All memory is taken first: if it is refused, store and tick
+/// stay as they are.
 pub fn answer_text<C: Cells>(
     text: &mut Vec<u8>,
     c: &mut C,

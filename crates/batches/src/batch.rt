@@ -23,7 +23,8 @@ pub enum Request {
     Bad,
 }
 
-/// The lines of a batch before its `end`, as requests. Contracts see the requests, and for how many more there is memory.
+/// The lines of a batch before its `end`, as requests. Contracts see the requests, and for how many
+/// more there is memory.
 #[derive(Drop)]
 pub struct Batch {
     requests: Vec<Request>,
@@ -36,13 +37,17 @@ impl Model for Batch {
 
     ghost Value = { Requests };
 
-    ghost view = { λ batch. record { list = batch.requests.items; room = vec_capacity batch.requests - vec_len batch.requests } };
+    ghost view = { λ batch. record {
+      list = batch.requests.items;
+      room = vec_capacity batch.requests - vec_len batch.requests;
+    } };
 
     ghost invariant = { λ batch. vec_len batch.requests ≤ BATCH_LINES };
 }
 
 impl Batch {
-    ghost use Rattle.std.specs.Prelude.{◌≡◌, ◌+◌, ◌≤◌, ◌<◌, ◌↔◌, [], ◌∷◌, ◌++◌, length, IsTrue, IfOk, IfErr};
+    ghost use Rattle.std.specs.Prelude.{◌≡◌, ◌+◌, ◌≤◌, ◌<◌, ◌↔◌, [], ◌∷◌, ◌++◌, length, IsTrue};
+    ghost use Rattle.std.specs.Prelude.{IfOk, IfErr};
 
     /// A batch with no request, and room for as many as a batch may have.
     pub fn new(alloc: Global) -> Result<Self, Refusal>
@@ -79,7 +84,8 @@ impl Batch {
         }
     }
 
-    /// Copies the requests to memory of their own: that of this spare batch, if it has room for them.
+    /// Copies the requests to memory of their own: that of this spare batch, if it
+    /// has room for them.
     pub fn try_copy(&self, spare: Batch) -> Result<Batch, Refusal>
         ensures list { IfOk result (λ batch. batch.list ≡ self.now.list) }
         ensures memory { IfErr result (λ refusal. refusal ≡ Refusal.NoMemory) }

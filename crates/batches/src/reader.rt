@@ -1,4 +1,5 @@
-ghost use Rattle.std.specs.Prelude.{◌≡◌, ◌≤◌, ◌<◌, ◌+◌, ◌++◌, ◌∷◌, [], ℕ, List, length, take, IfOk, IfErr, Option};
+ghost use Rattle.std.specs.Prelude.{◌≡◌, ◌≤◌, ◌<◌, ◌+◌, ◌++◌, ◌∷◌, [], ℕ, List, length, take, IfOk};
+ghost use Rattle.std.specs.Prelude.{IfErr, Option};
 ghost use Rattle.line_grammar.specs.declared.command.Command.{Command as Meaning};
 ghost use Rattle.batches.specs.Batch.{request_of};
 ghost use Rattle.line_grammar.specs.Command.{Means};
@@ -23,8 +24,8 @@ pub enum Fed {
     TooLong,
 }
 
-/// Reads batches from bytes that come in pieces of any length. It keeps at most 81 bytes of a line, which is one more than a
-/// line with a meaning can have.
+/// Reads batches from bytes that come in pieces of any length. It keeps at most 81 bytes of a line,
+/// which is one more than a line with a meaning can have.
 #[derive(Drop)]
 pub struct BatchReader {
     line: KeptLine,
@@ -77,7 +78,8 @@ impl BatchReader {
         ensures count { result.0 ≤ length piece.now }
         ensures some { 0 < length piece.now → 0 < result.0 }
         ensures more { result.1 ≡ More → (result.0 ≡ length piece.now)
-            × ((before : List ℕ) → IsBegun before self.old → IsBegun (before ++ piece.now) self.new) }
+            × ((before : List ℕ) → IsBegun before self.old
+            → IsBegun (before ++ piece.now) self.new) }
         ensures whole { result.1 ≡ Whole → (before : List ℕ) → IsBegun before self.old
             → IsWhole (before ++ take result.0 piece.now) self.new.requests }
         ensures too_long { result.1 ≡ TooLong → (before : List ℕ) → IsBegun before self.old

@@ -2,7 +2,8 @@ ghost use Rattle.std.specs.Prelude.{◌≡◌, ◌+◌, ◌≤◌, [], length, O
 ghost use Rattle.world_ticks.specs.declared.tick.TheConstants.{TICK_ACTIONS};
 ghost use Rattle.world_ticks.specs.After.{accepted_writes};
 ghost use Rattle.world_ticks.specs.Cells.{Performs};
-ghost use Rattle.batches.specs.Answer.{Play, answer_of, answers_of, after_request, writes_by, accepted_of, words_after};
+ghost use Rattle.batches.specs.Answer.{Play, answer_of, answers_of, after_request, writes_by};
+ghost use Rattle.batches.specs.Answer.{accepted_of, words_after};
 
 use crate::batch::{Batch, Request};
 use world_actions::Refusal;
@@ -19,8 +20,9 @@ pub enum Answer {
     Refused(Refusal),
 }
 
-/// Runs a batch on a store as a tick, into an empty tick. The answers, one to each request, replace the content of `answers`.
-/// All memory is taken first: if it is refused, store and tick stay as they are, and there are no answers.
+/// Runs a batch on a store as a tick, into an empty tick. The answers, one to each request, replace
+/// the content of `answers`. All memory is taken first: if it is refused, store and tick stay as
+/// they are, and there are no answers.
 pub fn answer_each<C: Cells>(
     answers: &mut Vec<Answer>,
     c: &mut C,
@@ -50,7 +52,8 @@ pub fn answer_each<C: Cells>(
 /// Runs a request on a store as part of a running tick that has room for it.
 pub fn run_request<C: Cells>(c: &mut C, t: &mut Tick, request: Request) -> Answer
     requires tick_room { t.old.room ≡ 0 → TICK_ACTIONS ≤ length t.old.list }
-    ensures answer { result ≡ answer_of (record { words = C.words c.old; accepted = t.old.list }) request }
+    ensures answer { result
+        ≡ answer_of (record { words = C.words c.old; accepted = t.old.list }) request }
     ensures after { record { words = C.words c.new; accepted = t.new.list }
         ≡ after_request (record { words = C.words c.old; accepted = t.old.list }) request }
     ensures writes { Performs C.accessed c.old

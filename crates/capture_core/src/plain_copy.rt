@@ -9,7 +9,8 @@ use std::marker::Model;
 use world_actions::Refusal;
 use world_ticks::Cells;
 
-/// The plainest capture. A mark copies all words into an array that was reserved before, and takes hand out the copy.
+/// The plainest capture. A mark copies all words into an array that was reserved before, and takes
+/// hand out the copy.
 #[derive(Drop)]
 pub struct PlainCopy {
     live: Vec<u64>,

@@ -8,8 +8,8 @@ use crate::capture::Capture;
 use crate::taker::{Taken, Taker};
 use world_ticks::Cells;
 
-/// Marks a store and takes the round into an image, which then has the words at the mark. A change is a cell and its new
-/// word. After each take the next change is written.
+/// Marks a store and takes the round into an image, which then has the words at the mark. A change
+/// is a cell and its new word. After each take the next change is written.
 pub fn copy_round<C: Capture>(store: &mut C, image: &mut [u64], changes: &[(usize, u64)])
     requires closed { (C.content store.old).left ≡ [] }
     requires cells { length image.old ≡ length (C.content store.old).live }

@@ -13,11 +13,13 @@ pub enum Taken {
 
 /// Hands out the cells of an open round in order.
 pub trait Taker {
-    /// A take may lead from the first state to the second with this answer. Each taker defines it, so that its takes are
-    /// known for its whole state. Callers that know the type of the taker can use that.
+    /// A take may lead from the first state to the second with this answer. Each taker defines
+    /// it, so that its takes are known for its whole state. Callers that know the type of the
+    /// taker can use that.
     ghost took: { Self → Option Taken → Self → Type 0 };
 
-    /// Hands out the next cell of the round, or `None` if the round is at its end. It takes no memory.
+    /// Hands out the next cell of the round, or `None` if the round is at its end. It
+    /// takes no memory.
     fn take(&mut self) -> Option<Taken>
         ensures took { took self.old result self.new }
         ensures limit { IfSome result IsTakenWord }

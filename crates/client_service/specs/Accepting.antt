@@ -3,7 +3,8 @@ use Rattle.std.specs.Prelude.{ℕ, ◌*◌, min, if◌then◌else◌, ◌==◌}
 use Rattle.worker_threads.specs.declared.threads.NotStarted.{NotStarted}
 use Rattle.worker_threads.specs.declared.threads.NotStarted.TheVariants.{NoMemory, NoThread}
 use Rattle.client_service.specs.declared.server.NotServed.{NotServed}
-use Rattle.client_service.specs.declared.server.NotServed.TheVariants.{NoMemory as ServedNoMemory, NoThread as ServedNoThread}
+use Rattle.client_service.specs.declared.server.NotServed.TheVariants.{NoMemory as ServedNoMemory}
+use Rattle.client_service.specs.declared.server.NotServed.TheVariants.{NoThread as ServedNoThread}
 
 -- how many milliseconds accepting waits after a pause of so many, of which 0 is none
 abbrev pub next_pause : ℕ → ℕ

@@ -19,27 +19,37 @@ Asks old new = IsAsked old.asker new.asker × (new ≡ record old { asker = new.
 
 -- it heard this post, a new one of its last ask, which was for these requests
 abbrev pub HearsPost : (old : Asking) → List Request → (new : Asking) → Posted → Type 0
-HearsPost old requests new post = IsNewPost old.asker requests post × (new ≡ record old { asker = record old.asker { posted = post.tick }; last = Some post })
+HearsPost old requests new post =
+    IsNewPost old.asker requests post
+    × (new ≡ record old { asker = record old.asker { posted = post.tick }; last = Some post })
 
 -- it heard a fault of its last ask, for this reason
 abbrev pub HearsFault : (old new : Asking) → Refusal → Type 0
-HearsFault old new refusal = (fault : Fault) × IsFaultOf old.asker fault × (refusal ≡ fault.reason) × (new ≡ record old { fault = Some fault })
+HearsFault old new refusal =
+    (fault : Fault) × IsFaultOf old.asker fault × (refusal ≡ fault.reason)
+    × (new ≡ record old { fault = Some fault })
 
 -- it sent no ask: it had no memory, the mutator is gone, or no number of 64 bits is left
 abbrev pub AsksNothing : (old new : Asking) → Refusal → Type 0
 AsksNothing old new refusal = ((new ≡ old) × (refusal ≡ NoMemory))
-    ⊎ ((fault : Fault) × IsUnsent old.asker fault × (refusal ≡ fault.reason) × (new ≡ record old { fault = Some fault }))
+    ⊎ ((fault : Fault) × IsUnsent old.asker fault × (refusal ≡ fault.reason)
+    × (new ≡ record old { fault = Some fault }))
 
 -- it asked once, and heard this post
 abbrev pub IsAnsweredBy : (old : Asking) → List Request → (new : Asking) → Posted → Type 0
-IsAnsweredBy old requests new post = (asked : Asking) × Asks old asked × HearsPost asked requests new post
+IsAnsweredBy old requests new post =
+    (asked : Asking) × Asks old asked × HearsPost asked requests new post
 
 -- it asked nothing, or asked once and heard a fault for this reason
 abbrev pub IsRefusedFor : (old new : Asking) → Refusal → Type 0
-IsRefusedFor old new refusal = AsksNothing old new refusal ⊎ ((asked : Asking) × Asks old asked × HearsFault asked new refusal)
+IsRefusedFor old new refusal =
+    AsksNothing old new refusal ⊎ ((asked : Asking) × Asks old asked × HearsFault asked new refusal)
 
--- A batch is asked for once. Its answer is the text of a new post, which is of this very ask, at a later tick than the one
--- before, and durable. A fault is the one that was heard of this ask, and comes of no post.
-abbrev pub IsPosted : (old : Asking) → List Request → Result (List ℕ) Refusal → (new : Asking) → Type 0
-IsPosted old requests (Ok text) new = (post : Posted) × IsAnsweredBy old requests new post × (text ≡ post.text) × IsPost post
+-- A batch is asked for once. Its answer is the text of a new post, which is of this very ask, at a
+-- later tick than the one before, and durable. A fault is the one that was heard of this ask, and
+-- comes of no post.
+abbrev pub IsPosted : (old : Asking) → List Request → Result (List ℕ) Refusal
+    → (new : Asking) → Type 0
+IsPosted old requests (Ok text) new =
+    (post : Posted) × IsAnsweredBy old requests new post × (text ≡ post.text) × IsPost post
 IsPosted old requests (Err refusal) new = IsRefusedFor old new refusal

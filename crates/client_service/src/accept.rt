@@ -18,7 +18,8 @@ use workers::{AskChannel, Looks};
 pub struct Admission {
     /// After how many connections it accepts no more.
     pub clients: u32,
-    /// After how many seconds in which its client sends or takes no byte a session ends. Without a number it never does.
+    /// After how many seconds in which its client sends or takes no byte a session ends. Without a
+    /// number it never does.
     pub idle: Option<u32>,
 }
 
@@ -47,9 +48,10 @@ pub struct Accepted {
     pub closed: Closed,
 }
 
-/// Accepts so many connections, and serves each in its own thread. It waits out a shortage of descriptors or
-/// memory. A client that can be given no thread or no memory is closed unanswered. After the last one, or a failure of
-/// the listener, it closes the listener and waits for the sessions. It comes back at once if the server is left.
+/// Accepts so many connections, and serves each in its own thread. It waits out a shortage of
+/// descriptors or memory. A client that can be given no thread or no memory is closed unanswered.
+/// After the last one, or a failure of the listener, it closes the listener and waits for the
+/// sessions. It comes back at once if the server is left.
 pub fn accept_sessions<
     R: Threads + Wait + Clock + Copy + Send + 'static,
     W: Door + Clone + Drop + Send + 'static,
@@ -65,7 +67,8 @@ pub fn accept_sessions<
     ensures all { result.closed ≡ Closed.AllCame → result.connections ≡ admission.clients }
     ensures some { result.connections ≤ admission.clients }
     ensures memory { result.closed ≡ Closed.NoMemory → result.connections ≡ 0 }
-    ensures joined { result.closed ≢ Closed.Left → result.connections ≡ result.sessions.count + result.unserved }
+    ensures joined { result.closed ≢ Closed.Left
+        → result.connections ≡ result.sessions.count + result.unserved }
 {
     let Ok(mut sessions) = Sessions::new(alloc, admission.clients, asks) else {
         return Accepted {
@@ -107,7 +110,8 @@ fn finish<R: Threads + Wait + Clock, W: Door>(
     requires { sessions.started ≤ connections }
     ensures closed { result.closed ≢ Closed.Left → result.closed ≡ closed }
     ensures connections { result.connections ≡ connections }
-    ensures joined { result.closed ≢ Closed.Left → result.connections ≡ result.sessions.count + result.unserved }
+    ensures joined { result.closed ≢ Closed.Left
+        → result.connections ≡ result.sessions.count + result.unserved }
 {
     let unserved = connections - sessions.started();
     match (closed, sessions.join_all(rt, door)) {

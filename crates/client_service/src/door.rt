@@ -11,8 +11,8 @@ pub enum Unserved {
     NoThread,
 }
 
-/// Hears of connections, each time in the thread that serves or accepts them. A call that waits holds up a session or
-/// the accepting, so none may.
+/// Hears of connections, each time in the thread that serves or accepts them. A call that waits
+/// holds up a session or the accepting, so none may.
 pub trait Door {
     /// The workers run: clients may come.
     fn opened(&mut self);
@@ -32,8 +32,8 @@ pub trait Door {
     /// No more connections are accepted, and the listener is closed.
     fn closed(&mut self);
 
-    /// True if the server is to be left at once, with its workers and sessions as they are. It is asked after each
-    /// connection, and ten times a second once no more are accepted.
+    /// True if the server is to be left at once, with its workers and sessions as they are. It is
+    /// asked after each connection, and ten times a second once no more are accepted.
     fn is_left(&self) -> bool;
 
     /// The counts of the sessions, if anybody asks for them.

@@ -37,11 +37,14 @@ pub enum Failure {
 pub fn failure_of(error: &io::Error) -> Failure
     ensures interrupted { raw_os_error error.now ≡ Some (pos 4) → result ≡ Failure.Interrupted }
     ensures no_memory { raw_os_error error.now ≡ Some (pos 12) → result ≡ Failure.Shortage }
-    ensures no_descriptor_of_the_system { raw_os_error error.now ≡ Some (pos 23) → result ≡ Failure.Shortage }
-    ensures no_descriptor_of_the_process { raw_os_error error.now ≡ Some (pos 24) → result ≡ Failure.Shortage }
+    ensures no_descriptor_of_the_system { raw_os_error error.now ≡ Some (pos 23)
+        → result ≡ Failure.Shortage }
+    ensures no_descriptor_of_the_process { raw_os_error error.now ≡ Some (pos 24)
+        → result ≡ Failure.Shortage }
     ensures one_client { raw_os_error error.now ≡ Some (pos 103) → result ≡ Failure.OneClient }
     ensures no_buffer { raw_os_error error.now ≡ Some (pos 105) → result ≡ Failure.Shortage }
-    ensures other { (code : ℤ) → raw_os_error error.now ≡ Some code → code ≢ pos 4 → code ≢ pos 12 → code ≢ pos 23
+    ensures other { (code : ℤ) → raw_os_error error.now ≡ Some code → code ≢ pos 4
+        → code ≢ pos 12 → code ≢ pos 23
         → code ≢ pos 24 → code ≢ pos 103 → code ≢ pos 105 → result ≡ Failure.Listener }
     ensures none { raw_os_error error.now ≡ None → result ≡ Failure.Listener }
 {

@@ -23,8 +23,10 @@ impl Incoming {
     pub fn next(&mut self) -> Result<Stream, (Failure, io::Error)>
         requires { self.old.came < 4294967295 }
         ensures came { OnOk result (self.new.came ≡ self.old.came + 1) }
-        ensures left { IfErr result (λ why. why.0 ≡ Failure.OneClient → self.new.came ≡ self.old.came + 1) }
-        ensures none { IfErr result (λ why. why.0 ≢ Failure.OneClient → self.new.came ≡ self.old.came) }
+        ensures left { IfErr result (λ why. why.0 ≡ Failure.OneClient
+            → self.new.came ≡ self.old.came + 1) }
+        ensures none { IfErr result (λ why. why.0 ≢ Failure.OneClient
+            → self.new.came ≡ self.old.came) }
     {
         match self.listener.accept() {
             Ok(stream) => {

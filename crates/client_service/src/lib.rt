@@ -1,9 +1,9 @@
 //! The clients of a world that workers run: a thread for each connection.
 //!
-//! `serve_clients` starts the workers of an open world, serves so many connections, and stops them. A session reads batches and
-//! sends each to the mutator. It writes the log writer's post of a batch, which comes only after the batch's tick is durable.
-//! A client that fails or leaves ends only its own session. A session that has ended is joined before the next connection
-//! is accepted.
+//! `serve_clients` starts the workers of an open world, serves so many connections, and stops them.
+//! A session reads batches and sends each to the mutator. It writes the log writer's post of a
+//! batch, which comes only after the batch's tick is durable. A client that fails or leaves ends
+//! only its own session. A session that has ended is joined before the next connection is accepted.
 #![tactic(auto)]
 
 mod accept;

@@ -11,14 +11,15 @@ use std::sync::{Arc, Wait};
 use workers::{Asker, AwaitedReply, Fault, Looks, Post, ReplySender, ReplySlot};
 use world_actions::Refusal;
 
-/// The world that the workers run, for one session. Contracts see its asker, its last post and its last
-/// fault.
+/// The world that the workers run, for one session. Contracts see its asker, its last post
+/// and its last fault.
 #[derive(Drop)]
 pub struct Remote<R: Wait + Copy> {
     rt: R,
     alloc: Global,
     asker: Asker,
-    /// The place where its replies come. There is none before its first ask, and after one that wasn't sent.
+    /// The place where its replies come. There is none before its first ask, and after one
+    /// that wasn't sent.
     slot: Option<ReplySlot>,
     /// How often it looks for a reply before it sleeps. Without this it sleeps at once.
     looks: Option<Looks>,
@@ -36,13 +37,18 @@ impl<R: Wait + Copy> Model for Remote<R> {
 
     ghost Value = { Asking };
 
-    ghost view = { λ remote. record { asker = remote.asker; last = option_map (λ post. post.value) remote.last; fault = remote.fault } };
+    ghost view = { λ remote. record {
+      asker = remote.asker;
+      last = option_map (λ post. post.value) remote.last;
+      fault = remote.fault;
+    } };
 }
 
 impl<R: Wait + Copy> Remote<R> {
     ghost use Rattle.std.specs.Prelude.{◌≡◌, None, Some, IfOk, IfErr};
     ghost use Rattle.workers.specs.Asking.{IsNewPost, IsFaultOf};
-    ghost use Rattle.client_service.specs.Remote.{HearsPost, HearsFault, IsAnsweredBy, IsRefusedFor};
+    ghost use Rattle.client_service.specs.Remote.{HearsPost, HearsFault, IsAnsweredBy};
+    ghost use Rattle.client_service.specs.Remote.{IsRefusedFor};
 
     /// The world of a session, whose batches go to the mutator by this asker.
     pub fn new(rt: R, alloc: Global, asker: Asker) -> Self
@@ -159,8 +165,10 @@ impl<R: Wait + Copy> Remote<R> {
     // The reply to the last ask, which was for this batch, and the slot.
     fn reply(&mut self, b: &Batch, awaited: AwaitedReply) -> (Result<Post, Fault>, ReplySlot)
         ensures ok { IfOk result.0 (λ post. IsNewPost self.old.asker b.now.list post
-            × (self.new ≡ record self.old { asker = record self.old.asker { posted = post.tick } })) }
-        ensures err { IfErr result.0 (λ fault. IsFaultOf self.old.asker fault × (self.new ≡ self.old)) }
+            × (self.new
+            ≡ record self.old { asker = record self.old.asker { posted = post.tick } })) }
+        ensures err { IfErr result.0 (λ fault. IsFaultOf self.old.asker fault
+            × (self.new ≡ self.old)) }
     {
         match &self.looks {
             Some(looks) => {

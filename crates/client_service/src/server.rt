@@ -30,7 +30,8 @@ pub enum NotServed {
     NoMemory,
     /// The system gives no thread for a worker.
     NoThread,
-    /// The door said that the server is to be left: its workers and sessions may run on, up to the program's end.
+    /// The door said that the server is to be left: its workers and sessions may run on, up to
+    /// the program's end.
     Left,
 }
 
@@ -59,11 +60,12 @@ impl From<NotStarted> for NotServed {
     }
 }
 
-/// Serves the connections of a listener by the workers of a world, and stops the workers after the last one, also if the
-/// listener fails. A round is due after every `every` ticks. On disks that keep to the disk model the files are then sound
-/// for all ticks that were played. Each session's batches were taken in its order, none left out, and played at most once. If
-/// the workers can't be started no thread is left running, and no connection is accepted. If the server is left, its threads
-/// run on.
+/// Serves the connections of a listener by the workers of a world, and stops the workers after
+/// the last one, also if the listener fails. A round is due after every `every` ticks. On disks
+/// that keep to the disk model the files are then sound for all ticks that were played. Each
+/// session's batches were taken in its order, none left out, and played at most once. If the
+/// workers can't be started no thread is left running, and no connection is accepted. If the
+/// server is left, its threads run on.
 pub fn serve_clients<
     R: Threads + Wait + Clock + Copy + Send + 'static,
     M: Method + Send + 'static,
@@ -82,7 +84,8 @@ pub fn serve_clients<
     listener: Listener,
     admission: Admission,
 ) -> Result<Stopped<M, D, A, B, C>, NotServed>
-    requires { IsWhole D.honest D.content opened.front opened.back opened.images opened.log opened.ended }
+    requires { IsWhole D.honest D.content opened.front opened.back opened.images
+        opened.log opened.ended }
     ensures all { IfOk result (λ stopped. stopped.accepted.closed ≡ Closed.AllCame
         → stopped.accepted.connections ≡ admission.clients) }
     ensures some { IfOk result (λ stopped. stopped.accepted.connections ≤ admission.clients) }
@@ -90,7 +93,8 @@ pub fn serve_clients<
     ensures joined { IfOk result (λ stopped. stopped.accepted.connections
         ≡ stopped.accepted.sessions.count + stopped.accepted.unserved) }
     ensures began { IfOk result (λ stopped. (stopped.workers.mutator.opening ≡ opened.front.live)
-        × (stopped.workers.checkpointer.opening ≡ opened.images) × (stopped.workers.log_writer.opening ≡ opened.log)) }
+        × (stopped.workers.checkpointer.opening ≡ opened.images)
+        × (stopped.workers.log_writer.opening ≡ opened.log)) }
     ensures sound { IsTrue D.honest → IfOk result (λ stopped.
         StaysSound D.content D.may_leave opened.front.live opened.images opened.log opened.ended
         stopped.workers.mutator stopped.workers.checkpointer stopped.workers.log_writer) }

@@ -18,8 +18,9 @@ use world_actions::Refusal;
 #[derive(Drop)]
 pub struct Over(());
 
-/// Answers the batches that the reader gives, one line each, as the session of this world. Each line that isn't a fault
-/// is the text of a new post of that very batch. It ends as `serve_lines` does.
+/// Answers the batches that the reader gives, one line each, as the session of this world. Each
+/// line that isn't a fault is the text of a new post of that very batch. It ends as
+/// `serve_lines` does.
 pub fn serve_batches<R: Wait + Copy, B: Read, W: Write>(
     alloc: Global,
     r: &mut B,
@@ -38,16 +39,18 @@ pub fn serve_batches<R: Wait + Copy, B: Read, W: Write>(
         → (input : List ℕ) × Consumes (B.remaining r.old) (B.remaining r.new) input
         × (written : List ℕ) × Appends (W.contents w.old) (W.contents w.new) written
         × IsCutOff IsPosted world.old input written world.new }
-    ensures memory { result ≡ Err Refusal.NoMemory → (r.new ≡ r.old) × (w.new ≡ w.old) × (world.new ≡ world.old) }
+    ensures memory { result ≡ Err Refusal.NoMemory
+        → (r.new ≡ r.old) × (w.new ≡ w.old) × (world.new ≡ world.old) }
     ensures fault { IfErr result (λ refusal. (refusal ≡ Refusal.NoMemory)
         ⊎ ((refusal ≡ Refusal.BadLine) ⊎ (refusal ≡ Refusal.Device))) }
 {
     serve_lines(alloc, r, w, world)
 }
 
-/// Serves a connection as the session of this asker, until its client leaves. It also ends if the client neither sends
-/// nor takes a byte for so many seconds, or by a fault, which ends no other session. The bytes after a batch that is too
-/// long are read and dropped, so that its answer arrives. The door hears of a session that has no memory.
+/// Serves a connection as the session of this asker, until its client leaves. It also ends if the
+/// client neither sends nor takes a byte for so many seconds, or by a fault, which ends no other
+/// session. The bytes after a batch that is too long are read and dropped, so that its answer
+/// arrives. The door hears of a session that has no memory.
 pub fn serve_session<R: Wait + Copy, W: Door + Drop>(
     rt: &R,
     alloc: Global,

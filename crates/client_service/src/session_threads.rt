@@ -13,8 +13,8 @@ use std::time::{Clock, Duration};
 use transports::Stream;
 use workers::{AskChannel, Asker, Looks};
 
-/// The stack of a session's thread, which needs a tenth of it. The system's own would be 8 MiB, of which the C library keeps
-/// five for threads to come, and 160 of these.
+/// The stack of a session's thread, which needs a tenth of it. The system's own would be 8 MiB, of
+/// which the C library keeps five for threads to come, and 160 of these.
 const STACK_BYTES: usize = 256 * 1024;
 
 /// How long the wait for the last sessions goes without asking the door.
@@ -113,8 +113,8 @@ impl Sessions {
         self.started
     }
 
-    /// Waits until all have ended: those that were started were then joined, each once. It returns nothing if the server
-    /// is left meanwhile.
+    /// Waits until all have ended: those that were started were then joined, each once. It returns
+    /// nothing if the server is left meanwhile.
     pub fn join_all<R: Threads + Wait + Clock, W: Door>(self, rt: &R, door: &W) -> Option<Joined>
         ensures { IfSome result (λ joined. joined.count ≡ self.started) }
     {

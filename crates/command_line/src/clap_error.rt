@@ -6,13 +6,15 @@ use crate::not_run::NotRun;
 use clap::error::{Error, ErrorKind};
 use std::io;
 
-/// A command line that isn't right, or that asks for help or the version. It prints clap's text, except if memory is
-/// lacking.
+/// A command line that isn't right, or that asks for help or the version. It prints clap's text,
+/// except if memory is lacking.
 pub fn refused<R: Print + Eprint>(rt: &R, error: &Error) -> NotRun
     ensures memory { kind_of error.now ≡ ErrorKind.OutOfMemory → result ≡ NotRun.NoMemory }
-    ensures reported { (kind_of error.now ≡ ErrorKind.DisplayHelp) ⊎ (kind_of error.now ≡ ErrorKind.DisplayVersion)
+    ensures reported { (kind_of error.now ≡ ErrorKind.DisplayHelp)
+        ⊎ (kind_of error.now ≡ ErrorKind.DisplayVersion)
         → (result ≡ NotRun.HelpPrinted) ⊎ ((why : SystemError) × (result ≡ NotRun.Unprinted why)) }
-    ensures mistaken { kind_of error.now ≢ ErrorKind.OutOfMemory → kind_of error.now ≢ ErrorKind.DisplayHelp
+    ensures mistaken { kind_of error.now ≢ ErrorKind.OutOfMemory
+        → kind_of error.now ≢ ErrorKind.DisplayHelp
         → kind_of error.now ≢ ErrorKind.DisplayVersion → result ≡ NotRun.Mistaken }
 {
     if error.kind() == ErrorKind::OutOfMemory {

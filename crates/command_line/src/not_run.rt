@@ -20,10 +20,12 @@ impl NotRun {
     ghost use Rattle.std.specs.Prelude.{◌≡◌};
     ghost use Rattle.std.specs.Process.{exit_status};
     ghost use Rattle.std.specs.declared.io.Error.{Error};
-    ghost use Rattle.command_line.specs.declared.not_run.NotRun.TheVariants.{HelpPrinted, Unprinted, Mistaken, NoMemory};
+    ghost use Rattle.command_line.specs.declared.not_run.NotRun.TheVariants.{HelpPrinted};
+    ghost use Rattle.command_line.specs.declared.not_run.NotRun.TheVariants.{Unprinted, Mistaken};
+    ghost use Rattle.command_line.specs.declared.not_run.NotRun.TheVariants.{NoMemory};
 
-    /// Returns the exit status. A failed output and lack of memory weren't reported before, so they are printed on
-    /// standard error.
+    /// Returns the exit status. A failed output and lack of memory weren't reported before, so they
+    /// are printed on standard error.
     pub fn report<R: Eprint>(self, rt: &R) -> ExitCode
         ensures reported { self ≡ HelpPrinted → exit_status result ≡ 0 }
         ensures unprinted { (error : Error) → self ≡ Unprinted error → exit_status result ≡ 1 }

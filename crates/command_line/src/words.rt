@@ -10,7 +10,8 @@ pub fn command_words(rt: &(impl Env + AllocGlobal)) -> io::Result<Vec<String>> {
     env::args(rt)?.collect(rt.alloc()).map_err(io::Error::from)
 }
 
-/// Words that the system couldn't give. It prints the reason on standard error, except if memory is lacking.
+/// Words that the system couldn't give. It prints the reason on standard error, except if
+/// memory is lacking.
 pub fn unreadable<R: Eprint>(rt: &R, error: &io::Error) -> NotRun
     ensures memory { error_kind error.now ≡ ErrorKind.OutOfMemory → result ≡ NotRun.NoMemory }
     ensures mistaken { error_kind error.now ≢ ErrorKind.OutOfMemory → result ≡ NotRun.Mistaken }

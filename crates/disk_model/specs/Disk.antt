@@ -1,5 +1,6 @@
 -- The effect of a disk's calls on its file, and on the bytes that a crash may leave of it.
-use Rattle.std.specs.Prelude.{◌≡◌, ◌⊎◌, ℕ, ◌+◌, ◌-◌, ◌^◌, ◌≤◌, min, max, Bool, true, false, List, ◌++◌, length, take, drop, Result, Ok, Err, IfErr}
+use Rattle.std.specs.Prelude.{◌≡◌, ◌⊎◌, ℕ, ◌+◌, ◌-◌, ◌^◌, ◌≤◌, min, max, Bool, true, false, List}
+use Rattle.std.specs.Prelude.{◌++◌, length, take, drop, Result, Ok, Err, IfErr}
 use Rattle.std.proofs.Common.{arith}
 use Rattle.world_actions.specs.declared.refusal.Refusal.{Refusal}
 use Rattle.world_actions.specs.declared.refusal.Refusal.TheVariants.{Device}
@@ -8,8 +9,8 @@ use Rattle.world_actions.specs.declared.refusal.Refusal.TheVariants.{Device}
 abbrev pub overwritten : {A : Type 0} → List A → ℕ → List A → List A
 overwritten old at items = take at old ++ items ++ drop (at + length items) old
 
--- A write of n bytes that isn't known to be whole. Its range has any bytes, and the other places keep theirs. The length
--- is between the old one and the one that a whole write gives.
+-- A write of n bytes that isn't known to be whole. Its range has any bytes, and the other places
+-- keep theirs. The length is between the old one and the one that a whole write gives.
 pub record Torn (at n : ℕ) (old new : List ℕ) : Type 0 where
   pub before : take at new ≡ take at old
   pub after : drop (at + n) new ≡ drop (at + n) old
@@ -18,7 +19,8 @@ pub record Torn (at n : ℕ) (old new : List ℕ) : Type 0 where
 
 -- each new outcome of a crash comes from an old outcome by a step
 abbrev pub Follows : (List ℕ → List ℕ → Type 0) → (List ℕ → Type 0) → (List ℕ → Type 0) → Type 0
-Follows step old new = (left : List ℕ) → new left → (before : List ℕ) × old before × step before left
+Follows step old new =
+    (left : List ℕ) → new left → (before : List ℕ) × old before × step before left
 
 -- each new outcome of a crash is also an old outcome
 abbrev pub Within : (List ℕ → Type 0) → (List ℕ → Type 0) → Type 0
@@ -64,12 +66,15 @@ abbrev pub CalledAtMostOnce : {S : Type 0} → (S → Call → Bool → S → Ty
 CalledAtMostOnce called old new = (new ≡ old) ⊎ CalledOnce called old new
 
 -- at most one call was made, of one of two disks
-abbrev pub OneCalledAtMostOnce : {S : Type 0} → (S → Call → Bool → S → Type 0) → (one_before one_after other_before other_after : S) → Type 0
+abbrev pub OneCalledAtMostOnce : {S : Type 0} → (S → Call → Bool → S → Type 0)
+    → (one_before one_after other_before other_after : S) → Type 0
 OneCalledAtMostOnce called one_before one_after other_before other_after =
     (CalledAtMostOnce called one_before one_after × (other_after ≡ other_before))
     ⊎ ((one_after ≡ one_before) × CalledAtMostOnce called other_before other_after)
 
 -- the count of faults of one of two disks grew, or neither did
 abbrev pub FaultsBy : Bool → (one_before one_after other_before other_after : ℕ) → Type 0
-FaultsBy true one_before one_after other_before other_after = Grew one_before one_after ⊎ Grew other_before other_after
-FaultsBy false one_before one_after other_before other_after = (one_after ≡ one_before) × (other_after ≡ other_before)
+FaultsBy true one_before one_after other_before other_after =
+    Grew one_before one_after ⊎ Grew other_before other_after
+FaultsBy false one_before one_after other_before other_after =
+    (one_after ≡ one_before) × (other_after ≡ other_before)

@@ -1,5 +1,6 @@
 -- A file in memory as contracts see it, and the effect of its calls.
-use Rattle.std.specs.Prelude.{◌≡◌, ◌⊎◌, ℕ, ◌+◌, ◌<◌, ◌≤◌, min, List, Bool, true, false, length, get_or, replicate}
+use Rattle.std.specs.Prelude.{◌≡◌, ◌⊎◌, ℕ, ◌+◌, ◌<◌, ◌≤◌, min, List, Bool, true, false, length}
+use Rattle.std.specs.Prelude.{get_or, replicate}
 use Rattle.file_format.specs.Number.{IsBytes}
 use Rattle.disk_model.specs.Disk.{overwritten, last_count, Call, Write, Sync}
 
@@ -7,17 +8,18 @@ use Rattle.disk_model.specs.Disk.{overwritten, last_count, Call, Write, Sync}
 abbrev pub Marked : List Bool → ℕ → Type 0
 Marked table place = get_or table place false ≡ true
 
--- The content is no shorter than the durable bytes, and has them outside of unsynced writes. There is a mark for each
--- place of the content.
+-- The content is no shorter than the durable bytes, and has them outside of unsynced writes. There
+-- is a mark for each place of the content.
 pub record IsInOrder (durable content : List ℕ) (unsynced : List Bool) : Type 0 where
   pub durable_bytes : IsBytes durable
   pub content_bytes : IsBytes content
   pub marks : length unsynced ≡ length content
   pub no_shorter : length durable ≤ length content
-  pub agrees : (place : ℕ) → place < length durable → ¬ Marked unsynced place → get_or content place 0 ≡ get_or durable place 0
+  pub agrees : (place : ℕ) → place < length durable → ¬ Marked unsynced place
+      → get_or content place 0 ≡ get_or durable place 0
 
--- the durable bytes, the content that reads give, a mark for each place of it in an unsynced write, and the number of
--- failed calls
+-- the durable bytes, the content that reads give, a mark for each place of it in an unsynced write,
+-- and the number of failed calls
 pub record FileState : Type 0 where
   pub durable : List ℕ
   pub content : List ℕ

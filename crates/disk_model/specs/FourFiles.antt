@@ -1,30 +1,35 @@
 -- The four files of a world, and the effect of reading on files.
-use Rattle.std.specs.Prelude.{◌≡◌, ℕ, ◌+◌, ◌<◌, min, List, [], ◌∷◌, length, Result, Err, slice_index, slice_set}
+use Rattle.std.specs.Prelude.{◌≡◌, ℕ, ◌+◌, ◌<◌, min, List, [], ◌∷◌, length, Result, Err}
+use Rattle.std.specs.Prelude.{slice_index, slice_set}
 use Rattle.world_actions.specs.declared.refusal.Refusal.{Refusal}
 use Rattle.world_actions.specs.declared.refusal.Refusal.TheVariants.{Device}
 use Rattle.disk_model.specs.Disk.{last_count, Within}
 use Rattle.disk_model.specs.declared.four_files.FourFiles.{FourFiles}
 
 -- the relation R holds between the two values of each file
-pub record EachFile {A B : Type 0} (firsts : FourFiles A) (seconds : FourFiles B) (R : A → B → Type 0) : Type 0 where
+pub record EachFile {A B : Type 0} (firsts : FourFiles A) (seconds : FourFiles B)
+    (R : A → B → Type 0) : Type 0 where
   pub image_a : R firsts.image_a seconds.image_a
   pub image_b : R firsts.image_b seconds.image_b
   pub log_a : R firsts.log_a seconds.log_a
   pub log_b : R firsts.log_b seconds.log_b
 
 -- reads give the same bytes as before, and a crash leaves nothing that it could not leave before
-pub record KeepsFile {S : Type 0} (content : S → List ℕ) (may_leave : S → List ℕ → Type 0) (old new : S) : Type 0 where
+pub record KeepsFile {S : Type 0} (content : S → List ℕ) (may_leave : S → List ℕ → Type 0)
+    (old new : S) : Type 0 where
   pub same_content : content new ≡ content old
   pub crash : Within (may_leave old) (may_leave new)
 
--- the count of faults after calls of which only the last one may have failed; a refusal for lack of memory isn't counted
+-- the count of faults after calls of which only the last one may have failed; a refusal for lack of
+-- memory isn't counted
 abbrev pub counted_device : {T : Type 0} → ℕ → Result T Refusal → ℕ
 counted_device faults (Err Device) = min (faults + 1) last_count
 counted_device faults other = faults
 
 -- the four counts of faults, in order
 abbrev pub fault_counts : {S : Type 0} → (S → ℕ) → FourFiles S → List ℕ
-fault_counts faults files = faults files.image_a ∷ faults files.image_b ∷ faults files.log_a ∷ faults files.log_b ∷ []
+fault_counts faults files =
+    faults files.image_a ∷ faults files.image_b ∷ faults files.log_a ∷ faults files.log_b ∷ []
 
 -- one of the counts grew by one, or stays at its last value, and the others stay
 pub record OneGrew (old new : List ℕ) : Type 0 where

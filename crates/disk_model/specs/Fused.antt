@@ -1,9 +1,11 @@
 -- A disk with a fuse as contracts see it, and the effect of one call of it.
-use Rattle.std.specs.Prelude.{◌≡◌, ℕ, zero, suc, ◌+◌, min, Bool, false, Option, Some, None, refl, if◌then◌else◌}
+use Rattle.std.specs.Prelude.{◌≡◌, ℕ, zero, suc, ◌+◌, min, Bool, false, Option, Some, None, refl}
+use Rattle.std.specs.Prelude.{if◌then◌else◌}
 use Rattle.std.specs.Coded.{Coded, code_by, coded×, coded_ℕ, coded_option}
 use Rattle.disk_model.specs.Disk.{last_count, Call, Write}
 
--- the disk below, the number of calls that pass before the one that fails, and the number of calls that the fuse failed
+-- the disk below, the number of calls that pass before the one that fails, and the number of calls
+-- that the fuse failed
 pub record Fuse (D : Type 0) : Type 0 where
   pub inner : D
   pub left : Option ℕ
@@ -12,7 +14,8 @@ pub record Fuse (D : Type 0) : Type 0 where
 -- a fuse is stored as its fields
 abbrev pub fuse_code : {D : Type 0} → Coded D → Coded (Fuse D)
 fuse_code {D} code =
-    code_by (D × (Option ℕ × ℕ)) (coded× code (coded× (coded_option coded_ℕ) coded_ℕ)) (λ disk. (disk.inner, (disk.left, disk.faults)))
+    code_by (D × (Option ℕ × ℕ)) (coded× code (coded× (coded_option coded_ℕ) coded_ℕ))
+    (λ disk. (disk.inner, (disk.left, disk.faults)))
     (λ parts. record { inner = parts.0; left = parts.1.0; faults = parts.1.1 }) (λ _. refl)
 
 -- after a call, the number of calls that pass before the one that fails
@@ -34,16 +37,19 @@ module _ {D : Type 0} where
   abbrev pub more_faults : Fuse D → ℕ
   more_faults disk = min (disk.faults + 1) last_count
 
-  -- The call that is due to fail. A write is made below, and counted as failed if the disk below made it. Any other call
-  -- isn't made, and is counted.
-  abbrev pub Fails : (called : D → Call → Bool → D → Type 0) → (old : Fuse D) → Call → (new : Fuse D) → Type 0
+  -- The call that is due to fail. A write is made below, and counted as failed if the disk below
+  -- made it. Any other call isn't made, and is counted.
+  abbrev pub Fails : (called : D → Call → Bool → D → Type 0) → (old : Fuse D) → Call
+      → (new : Fuse D) → Type 0
   Fails called old (Write at bytes) new =
-      (made : Bool) × called old.inner (Write at bytes) made new.inner × (new.faults ≡ (if made then more_faults old else old.faults))
+      (made : Bool) × called old.inner (Write at bytes) made new.inner
+      × (new.faults ≡ (if made then more_faults old else old.faults))
   Fails called old other new = (new.inner ≡ old.inner) × (new.faults ≡ more_faults old)
 
-  -- One call of a disk with a fuse. The fuse counts it. If the call is due, it fails. Otherwise the disk below makes it,
-  -- and its answer is the answer.
-  pub record CallsThrough (called : D → Call → Bool → D → Type 0) (old : Fuse D) (call : Call) (succeeded : Bool) (new : Fuse D) : Type 0 where
+  -- One call of a disk with a fuse. The fuse counts it. If the call is due, it fails. Otherwise the
+  -- disk below makes it, and its answer is the answer.
+  pub record CallsThrough (called : D → Call → Bool → D → Type 0) (old : Fuse D) (call : Call)
+      (succeeded : Bool) (new : Fuse D) : Type 0 where
     pub counts : new.left ≡ counted_down old.left
     pub due : IsDue old → (succeeded ≡ false) × Fails called old call new
     pub passed : ¬ IsDue old → called old.inner call succeeded new.inner × (new.faults ≡ old.faults)

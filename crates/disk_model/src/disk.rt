@@ -1,6 +1,8 @@
-ghost use Rattle.std.specs.Prelude.{◌≡◌, ◌+◌, ◌≤◌, Bool, List, ℕ, IsTrue, length, take, drop, IfOk, OnOk, OnErr, is_ok};
+ghost use Rattle.std.specs.Prelude.{◌≡◌, ◌+◌, ◌≤◌, Bool, List, ℕ, IsTrue, length, take, drop, IfOk};
+ghost use Rattle.std.specs.Prelude.{OnOk, OnErr, is_ok};
 ghost use Rattle.file_format.specs.Number.{IsBytes};
-ghost use Rattle.disk_model.specs.Disk.{overwritten, Torn, Follows, Only, Within, counted, IsDeviceFault, last_count, Call, Length, Read, Write, Sync};
+ghost use Rattle.disk_model.specs.Disk.{overwritten, Torn, Follows, Only, Within, counted};
+ghost use Rattle.disk_model.specs.Disk.{IsDeviceFault, last_count, Call, Length, Read, Write, Sync};
 
 use world_actions::Refusal;
 
@@ -12,8 +14,8 @@ pub trait Disk {
     /// A crash now may leave these bytes.
     ghost may_leave: { Self → List ℕ → Type 0 };
 
-    /// True if each file of this type keeps to the disk model. If it is false, contracts state only the faults and the
-    /// calls.
+    /// True if each file of this type keeps to the disk model. If it is false, contracts state only
+    /// the faults and the calls.
     ghost honest: { Bool };
 
     /// The number of failures of the device, up to the last value of the count.
@@ -43,8 +45,8 @@ pub trait Disk {
         ensures device { IsDeviceFault result }
         ensures called { called self.old (Read at (length into.old)) (is_ok result) self.new };
 
-    /// Writes over the bytes from a place on, and past the end. Until a sync a crash may leave any bytes in the range.
-    /// After a failure reads may give any bytes there too.
+    /// Writes over the bytes from a place on, and past the end. Until a sync a crash may leave any
+    /// bytes in the range. After a failure reads may give any bytes there too.
     fn write_at(&mut self, at: u64, bytes: &[u8]) -> Result<(), Refusal>
         requires { IsTrue honest → at ≤ length (content self.old) }
         ensures written { IsTrue honest
@@ -57,7 +59,8 @@ pub trait Disk {
         ensures device { IsDeviceFault result }
         ensures called { called self.old (Write at bytes.now) (is_ok result) self.new };
 
-    /// Makes the content durable: a crash then leaves the bytes that a read gives. A failed sync makes nothing durable.
+    /// Makes the content durable: a crash then leaves the bytes that a read gives. A failed sync
+    /// makes nothing durable.
     fn sync(&mut self) -> Result<(), Refusal>
         ensures durable { IsTrue honest
             → OnOk result (Only (content self.old) (may_leave self.new)) }

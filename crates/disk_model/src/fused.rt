@@ -1,13 +1,15 @@
-ghost use Rattle.std.specs.Prelude.{◌≤◌, ◌↔◌, ◌≡◌, ◌+◌, ◌-◌, Err, IsTrue, Some, None, Result, Option};
+ghost use Rattle.std.specs.Prelude.{◌≤◌, ◌↔◌, ◌≡◌, ◌+◌, ◌-◌, Err, IsTrue, Some, None, Result};
+ghost use Rattle.std.specs.Prelude.{Option};
 ghost use Rattle.disk_model.specs.Disk.{min-last_count};
-ghost use Rattle.disk_model.specs.Fused.{Fuse, counted_down, IsDue, fault_count, more_faults, CallsThrough};
+ghost use Rattle.disk_model.specs.Fused.{Fuse, counted_down, IsDue, fault_count, more_faults};
+ghost use Rattle.disk_model.specs.Fused.{CallsThrough};
 
 use crate::Disk;
 use std::marker::Model;
 use world_actions::Refusal;
 
-/// A disk whose calls can be made to fail. Contracts see the disk below, the number of calls that pass before the one
-/// that fails, and the number that the fuse failed.
+/// A disk whose calls can be made to fail. Contracts see the disk below, the number of calls that
+/// pass before the one that fails, and the number that the fuse failed.
 #[derive(Drop)]
 pub struct Fused<D> {
     inner: D,

@@ -13,12 +13,14 @@ pub enum Leaving {
     Lose,
     /// The bytes that reads give.
     Keep,
-    /// As many bytes as reads give: this byte at each uncertain place, and the durable bytes elsewhere.
+    /// As many bytes as reads give: this byte at each uncertain place, and the durable
+    /// bytes elsewhere.
     Fill(u8),
 }
 
 impl ModelFile {
-    /// Returns the bytes that a crash of this kind leaves of the file. A crash may always leave them.
+    /// Returns the bytes that a crash of this kind leaves of the file. A crash may
+    /// always leave them.
     pub fn left_by(&self, alloc: Global, leaving: Leaving) -> Result<Vec<u8>, Refusal>
         ensures left { IfOk result (λ left. left.items ≡ left_by leaving self.now) }
         ensures allowed { IfOk result (λ left. IsCrashOutcome self.now left.items) }
@@ -32,7 +34,8 @@ impl ModelFile {
     }
 
     fn filled(&self, alloc: Global, byte: u8) -> Result<Vec<u8>, Refusal>
-        ensures filled { IfOk result (λ left. left.items ≡ filled byte self.now.durable self.now.unsynced) }
+        ensures filled { IfOk result (λ left. left.items
+            ≡ filled byte self.now.durable self.now.unsynced) }
         ensures allowed { IfOk result (λ left. IsCrashOutcome self.now left.items) }
         ensures memory { IfErr result (λ refusal. refusal ≡ Refusal.NoMemory) }
     {

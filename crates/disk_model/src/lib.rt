@@ -1,11 +1,11 @@
 //! Files of a disk that may fail and that a crash may stop.
 //!
-//! `Disk` is a file as the writers of images and of the log know it. It has a content that reads give, a set of bytes
-//! that a crash may leave of it now, and a count of the calls that failed. A write may be torn until a sync succeeds,
-//! whether the write failed or not.
+//! `Disk` is a file as the writers of images and of the log know it. It has a content that reads
+//! give, a set of bytes that a crash may leave of it now, and a count of the calls that failed. A
+//! write may be torn until a sync succeeds, whether the write failed or not.
 //!
-//! `ModelFile` is a file in memory that is exactly such a file. It keeps the durable bytes beside the content, and takes
-//! any crash that may happen. `Fused` makes a call of any disk fail.
+//! `ModelFile` is a file in memory that is exactly such a file. It keeps the durable bytes beside
+//! the content, and takes any crash that may happen. `Fused` makes a call of any disk fail.
 #![tactic(auto)]
 
 mod disk;

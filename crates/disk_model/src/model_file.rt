@@ -1,6 +1,9 @@
-ghost use Rattle.std.specs.Prelude.{◌≡◌, ◌+◌, ◌≤◌, ◌<◌, ◌↔◌, true, IsTrue, IsOk, length, take, drop, Err, IfOk, IfErr, OnOk, OnErr, vec_capacity, min, is_ok};
-ghost use Rattle.disk_model.specs.Disk.{overwritten, last_count, min-last_count, Torn, Follows, Within, Only, counted, IsDeviceFault, Write, Sync};
-ghost use Rattle.disk_model.specs.FileState.{IsUncertain, IsSynced, Writes, Syncs, after_fault, Calls};
+ghost use Rattle.std.specs.Prelude.{◌≡◌, ◌+◌, ◌≤◌, ◌<◌, ◌↔◌, true, IsTrue, IsOk, length, take};
+ghost use Rattle.std.specs.Prelude.{drop, Err, IfOk, IfErr, OnOk, OnErr, vec_capacity, min, is_ok};
+ghost use Rattle.disk_model.specs.Disk.{overwritten, last_count, min-last_count, Torn, Follows};
+ghost use Rattle.disk_model.specs.Disk.{Within, Only, counted, IsDeviceFault, Write, Sync};
+ghost use Rattle.disk_model.specs.FileState.{IsUncertain, IsSynced, Writes, Syncs, after_fault};
+ghost use Rattle.disk_model.specs.FileState.{Calls};
 ghost use Rattle.disk_model.specs.FileKept.{IsKept};
 ghost use Rattle.disk_model.specs.CrashOutcome.{IsCrashOutcome, content_stays};
 
@@ -10,8 +13,8 @@ use std::alloc::Global;
 use std::marker::Model;
 use world_actions::Refusal;
 
-/// A file in memory that is exactly the disk model. Contracts see the durable bytes, the content that reads give, and the
-/// places that lie in unsynced writes.
+/// A file in memory that is exactly the disk model. Contracts see the durable bytes, the content
+/// that reads give, and the places that lie in unsynced writes.
 #[derive(Drop)]
 pub struct ModelFile {
     durable: Vec<u8>,
@@ -21,7 +24,8 @@ pub struct ModelFile {
     // No place below this one lies in an unsynced write.
     first_unsynced: usize,
     faults: u64,
-    ghost kept: { IsKept durable.items content.items unsynced.items first_unsynced (vec_capacity durable) },
+    ghost kept: { IsKept durable.items content.items unsynced.items first_unsynced
+        (vec_capacity durable) },
 }
 
 impl Model for ModelFile {
@@ -42,8 +46,8 @@ impl Model for ModelFile {
 }
 
 impl ModelFile {
-    /// Makes a file with these bytes, all of them durable. It takes memory for a copy of the bytes, and for a mark for
-    /// each.
+    /// Makes a file with these bytes, all of them durable. It takes memory for a copy of the bytes,
+    /// and for a mark for each.
     pub fn new(alloc: Global, bytes: Vec<u8>) -> Result<Self, Refusal>
         ensures synced { IfOk result (IsSynced bytes.items) }
         ensures leaves { IfOk result (λ file. Only bytes.items (IsCrashOutcome file)) }
@@ -61,7 +65,8 @@ impl ModelFile {
         })
     }
 
-    /// Takes the memory for a file of this length. Until a crash no write within that length takes any.
+    /// Takes the memory for a file of this length. Until a crash no write within that
+    /// length takes any.
     pub fn reserve(&mut self, len: u64) -> Result<(), Refusal>
         ensures same { self.new ≡ self.old }
         ensures memory { IfErr result (λ refusal. refusal ≡ Refusal.NoMemory) }
@@ -110,8 +115,8 @@ impl ModelFile {
         true
     }
 
-    /// Crashes the file: it then has these bytes, all of them durable. It refuses exactly the bytes that a crash may not
-    /// leave, and then hands the file back. It takes no memory.
+    /// Crashes the file: it then has these bytes, all of them durable. It refuses exactly the bytes
+    /// that a crash may not leave, and then hands the file back. It takes no memory.
     pub fn crash(self, left: Vec<u8>) -> Result<ModelFile, (ModelFile, Refusal)>
         ensures allowed { OnOk result (IsCrashOutcome self left.items) }
         ensures synced { IfOk result (IsSynced left.items) }
@@ -188,8 +193,8 @@ impl Disk for ModelFile {
         Ok(())
     }
 
-    /// It takes memory only if it goes past the end. If that memory is refused, the call fails and is counted as a fault,
-    /// and nothing is written.
+    /// It takes memory only if it goes past the end. If that memory is refused, the call fails and
+    /// is counted as a fault, and nothing is written.
     fn write_at(&mut self, at: u64, bytes: &[u8]) -> Result<(), Refusal>
         requires { at ≤ length self.old.content }
         ensures writes { OnOk result (Writes at bytes.now self.old self.new) }

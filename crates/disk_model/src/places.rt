@@ -1,11 +1,12 @@
 // Lists with one item for each place: room for more items, and writes over some.
-ghost use Rattle.std.specs.Prelude.{◌≡◌, ◌+◌, ◌≤◌, ◌-◌, ◌++◌, true, false, length, take, drop, replicate, OnOk, OnErr, IsOk, vec_capacity, max};
+ghost use Rattle.std.specs.Prelude.{◌≡◌, ◌+◌, ◌≤◌, ◌-◌, ◌++◌, true, false, length, take, drop};
+ghost use Rattle.std.specs.Prelude.{replicate, OnOk, OnErr, IsOk, vec_capacity, max};
 ghost use Rattle.disk_model.specs.Disk.{overwritten};
 
 use std::alloc::AllocError;
 
-// Writes bytes over those from a place on, and past the end, and marks their places. It makes room for this write, and
-// for the sync or crash after it. A refusal changes nothing.
+// Writes bytes over those from a place on, and past the end, and marks their places. It makes room
+// for this write, and for the sync or crash after it. A refusal changes nothing.
 pub(crate) fn write_marked(
     durable: &mut Vec<u8>,
     content: &mut Vec<u8>,

@@ -1,7 +1,8 @@
-//! A world in its own program: one thread, the four files of a folder, and a client on standard input.
+//! A world in its own program: one thread, the four files of a folder, and a client
+//! on standard input.
 //!
-//! The folder is `world`, which `worldd create` makes. Lines are those of docs/FORMATS.md, and each batch is answered once its
-//! tick is durable. The status is that of `worldd`.
+//! The folder is `world`, which `worldd create` makes. Lines are those of docs/FORMATS.md, and each
+//! batch is answered once its tick is durable. The status is that of `worldd`.
 #![tactic(auto)]
 
 use command_line::take_standard_streams;

@@ -1,8 +1,8 @@
 //! A file of the operating system as a `Disk`.
 //!
-//! `FileDisk` makes one call of the system for each read and each write, and counts the calls that failed. It is opened to
-//! be written or only to be read, and is synced before it is read. No contract states its content, or that it keeps to the
-//! disk model: it is not `honest`.
+//! `FileDisk` makes one call of the system for each read and each write, and counts the calls that
+//! failed. It is opened to be written or only to be read, and is synced before it is read. No
+//! contract states its content, or that it keeps to the disk model: it is not `honest`.
 #![tactic(auto)]
 
 mod opening;

@@ -1,4 +1,5 @@
-ghost use Rattle.std.specs.Prelude.{◌≡◌, ◌↔◌, ◌<ℤ◌, pos, false, min, max, [], Ok, Err, IsOk, IfOk, IfErr, IsOkAnd, IsErrAnd, OnOk, OnErr, ⊤};
+ghost use Rattle.std.specs.Prelude.{◌≡◌, ◌↔◌, ◌<ℤ◌, pos, false, min, max, [], Ok, Err, IsOk, IfOk};
+ghost use Rattle.std.specs.Prelude.{IfErr, IsOkAnd, IsErrAnd, OnOk, OnErr, ⊤};
 ghost use Rattle.std.specs.Fd.{file_raw_fd};
 ghost use Rattle.std.specs.Fs.{metadata_len};
 ghost use Rattle.std.proofs.lemmas.Bool.{false≢true};
@@ -13,8 +14,9 @@ use std::marker::Model;
 use std::os::unix::fs::FileExt;
 use world_actions::Refusal;
 
-/// A file of the operating system. Contracts see a length that it has at least, and the number of its calls that failed.
-/// They see nothing of its content. Each read and each write is one call of the system.
+/// A file of the operating system. Contracts see a length that it has at least, and the number
+/// of its calls that failed. They see nothing of its content. Each read and each write is one
+/// call of the system.
 #[derive(Drop)]
 pub struct FileDisk {
     file: File,
@@ -34,9 +36,10 @@ impl Model for FileDisk {
 }
 
 impl FileDisk {
-    /// Takes a regular file that isn't open for appending, to write it. It is synced, and the system's copies of its bytes
-    /// are dropped: reads then give the bytes that the device has. The system's error is the reason of a refusal. A file at the
-    /// descriptor of a standard stream is refused.
+    /// Takes a regular file that isn't open for appending, to write it. It is synced, and the
+    /// system's copies of its bytes are dropped: reads then give the bytes that the device has.
+    /// The system's error is the reason of a refusal. A file at the descriptor of a standard
+    /// stream is refused.
     pub fn open(file: File) -> io::Result<FileDisk>
         ensures no_faults { IfOk result (λ disk. disk.faults ≡ 0) }
         ensures above { IsOk result → pos 2 <ℤ file_raw_fd file }
@@ -48,7 +51,8 @@ impl FileDisk {
         FileDisk::opened(file, synced, dropped, metadata)
     }
 
-    /// Takes a regular file that is only read. It is synced as far as it can be written, and the copies are dropped too.
+    /// Takes a regular file that is only read. It is synced as far as it can be written, and the
+    /// copies are dropped too.
     pub fn open_to_read(file: File) -> io::Result<FileDisk>
         ensures no_faults { IfOk result (λ disk. disk.faults ≡ 0) }
         ensures above { IsOk result → pos 2 <ℤ file_raw_fd file }
@@ -60,8 +64,8 @@ impl FileDisk {
         FileDisk::opened(file, synced, dropped, metadata)
     }
 
-    /// Takes a regular file that is only read, as the system has it now. After a failed sync that may be other than the device
-    /// has.
+    /// Takes a regular file that is only read, as the system has it now. After a failed sync that
+    /// may be other than the device has.
     pub fn open_cached(file: File) -> io::Result<FileDisk>
         ensures no_faults { IfOk result (λ disk. disk.faults ≡ 0) }
         ensures above { IsOk result → pos 2 <ℤ file_raw_fd file }
@@ -71,8 +75,8 @@ impl FileDisk {
         FileDisk::opened(file, Ok(()), Ok(()), metadata)
     }
 
-    // Makes the disk from the system's answers: to the sync, to the advice to drop its copies, and to the query of the file.
-    // The first error among them is the refusal's.
+    // Makes the disk from the system's answers: to the sync, to the advice to drop its copies, and
+    // to the query of the file. The first error among them is the refusal's.
     fn opened(
         file: File,
         synced: io::Result<()>,
@@ -83,8 +87,10 @@ impl FileDisk {
             (λ reported. disk ≡ record { known_length = metadata_len reported; faults = 0 })) }
         ensures succeeds { IsOk synced → IsOk dropped → IsOk metadata → IsOk result }
         ensures unsynced { IfErr synced (λ error. IsErrAnd result (λ why. why ≡ error)) }
-        ensures undropped { IsOk synced → IfErr dropped (λ error. IsErrAnd result (λ why. why ≡ error)) }
-        ensures unknown { IsOk synced → IsOk dropped → IfErr metadata (λ error. IsErrAnd result (λ why. why ≡ error)) }
+        ensures undropped { IsOk synced
+            → IfErr dropped (λ error. IsErrAnd result (λ why. why ≡ error)) }
+        ensures unknown { IsOk synced → IsOk dropped
+            → IfErr metadata (λ error. IsErrAnd result (λ why. why ≡ error)) }
     {
         match (synced, dropped, metadata) {
             (Ok(()), Ok(()), Ok(metadata)) => Ok(FileDisk {
@@ -102,7 +108,8 @@ impl FileDisk {
     // Takes an answer of the system. Its error counts as a failure.
     fn answered<T>(&mut self, answer: io::Result<T>) -> Result<T, Refusal>
         ensures ok { IfOk answer (λ value. (result ≡ Ok value) × (self.new ≡ self.old)) }
-        ensures err { OnErr answer ((result ≡ Err Refusal.Device) × (self.new ≡ after_failure self.old)) }
+        ensures err { OnErr answer
+            ((result ≡ Err Refusal.Device) × (self.new ≡ after_failure self.old)) }
     {
         match answer {
             Ok(value) => Ok(value),
@@ -110,8 +117,8 @@ impl FileDisk {
         }
     }
 
-    // Takes the system's answer to a call that was to move `asked` bytes. If it moved fewer, that is a failure of the
-    // kind `short`.
+    // Takes the system's answer to a call that was to move `asked` bytes. If it moved fewer, that
+    // is a failure of the kind `short`.
     fn moved(
         &mut self,
         answer: io::Result<usize>,
@@ -198,8 +205,8 @@ impl Disk for FileDisk {
         self.moved(answer, into.len(), ErrorKind::UnexpectedEof)
     }
 
-    /// A write that begins past the known length fails, and isn't made. A failed write may have made the file longer, by
-    /// an unknown length.
+    /// A write that begins past the known length fails, and isn't made. A failed write may have
+    /// made the file longer, by an unknown length.
     fn write_at(&mut self, at: u64, bytes: &[u8]) -> Result<(), Refusal> {
         match at.checked_add(bytes.len() as u64) {
             Some(end) if at <= self.known_length => {

@@ -1,6 +1,8 @@
 -- The mark of a file's format, in the number after its gate.
-use Rattle.std.specs.Prelude.{ℕ, ◌+◌, ◌-◌, List, length, drop, Option, Some, None, nat_lt, if◌then◌else◌}
-use Rattle.file_format.specs.declared.format.TheConstants.{MARK_PLACE, MARK_END, NUMBERS, SECOND_MARK}
+use Rattle.std.specs.Prelude.{ℕ, ◌+◌, ◌-◌, List, length, drop, Option, Some, None, nat_lt}
+use Rattle.std.specs.Prelude.{if◌then◌else◌}
+use Rattle.file_format.specs.declared.format.TheConstants.{MARK_PLACE, MARK_END, NUMBERS}
+use Rattle.file_format.specs.declared.format.TheConstants.{SECOND_MARK}
 use Rattle.file_format.specs.declared.format.Format.{Format}
 use Rattle.file_format.specs.declared.format.Format.TheVariants.{First, Second}
 use Rattle.file_format.specs.Number.{number_of}

@@ -13,7 +13,8 @@ abbrev pub of_slot : {X : Type 0} → Slot → X → X → X
 of_slot A first second = first
 of_slot B first second = second
 
--- the bytes that may be left in this slot, from those that may be left in the first and in the second
+-- the bytes that may be left in this slot, from those that may be left in the first
+-- and in the second
 abbrev pub in_slot : Slot → (List ℕ → Type 0) → (List ℕ → Type 0) → List ℕ → Type 0
 in_slot A first second bytes = first bytes
 in_slot B first second bytes = second bytes

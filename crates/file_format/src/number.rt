@@ -1,4 +1,5 @@
-ghost use Rattle.std.specs.Prelude.{◌≡◌, ◌+◌, ◌^◌, ◌<◌, ◌≤◌, ◌++◌, ◌∷◌, [], ℕ, List, length, take, drop, vec_capacity};
+ghost use Rattle.std.specs.Prelude.{◌≡◌, ◌+◌, ◌^◌, ◌<◌, ◌≤◌, ◌++◌, ◌∷◌, [], ℕ, List, length, take};
+ghost use Rattle.std.specs.Prelude.{drop, vec_capacity};
 ghost use Rattle.file_format.specs.Number.{IsBytes, number_bytes, number_of};
 
 use byteorder::{ByteOrder, LittleEndian};
@@ -79,7 +80,8 @@ pub fn write_u64_at(bytes: &mut [u8], place: usize, number: u64)
     bytes[place..place + 8].copy_from_slice(&number.to_le_bytes());
 }
 
-/// Laws: a number is read back from its bytes, whatever follows. Bytes are those of the number that is read from them.
+/// Laws: a number is read back from its bytes, whatever follows. Bytes are those of the number that
+/// is read from them.
 #[tactic(auto, using(crate::proofs::NumberLemmas::number_laws))]
 pub fn numbers_read_back()
     ensures read { (width number : ℕ) (rest : List ℕ) → number < 256 ^ width
@@ -88,7 +90,8 @@ pub fn numbers_read_back()
         → number_bytes width (number_of width bytes) ≡ take width bytes }
     ensures front { (width : ℕ) (bytes rest : List ℕ) → width ≤ length bytes
         → number_of width (bytes ++ rest) ≡ number_of width bytes }
-    ensures fits { (width : ℕ) (bytes : List ℕ) → IsBytes bytes → number_of width bytes < 256 ^ width }
+    ensures fits { (width : ℕ) (bytes : List ℕ) → IsBytes bytes
+        → number_of width bytes < 256 ^ width }
     ensures length { (width number : ℕ) → length (number_bytes width number) ≡ width }
     ensures bytes { (width number : ℕ) → IsBytes (number_bytes width number) }
 {}

@@ -15,14 +15,17 @@ module _ {S : Type 0} (called : S → Call → Bool → S → Type 0) where
   abbrev pub AreAsked : (most calls : ℕ) → S → S → Type 0
   AreAsked most zero old new = new ≡ old
   AreAsked most (suc calls) old new =
-      (between : S) × AreAsked most calls old between × ((call : Call) × (succeeded : Bool) × AsksWithin most call × called between call succeeded new)
+      (between : S) × AreAsked most calls old between
+      × ((call : Call) × (succeeded : Bool) × AsksWithin most call
+      × called between call succeeded new)
 
   -- a disk is asked for its length and for bytes up to this place, and for nothing else
   abbrev pub OnlyAsked : (most : ℕ) → S → S → Type 0
   OnlyAsked most old new = (calls : ℕ) × AreAsked most calls old new
 
   -- each of four files is asked for bytes up to its place
-  pub record FilesOnlyAsked (image_a_most image_b_most log_a_most log_b_most : ℕ) (old new : FourFiles S) : Type 0 where
+  pub record FilesOnlyAsked (image_a_most image_b_most log_a_most log_b_most : ℕ)
+      (old new : FourFiles S) : Type 0 where
     pub image_a : OnlyAsked image_a_most old.image_a new.image_a
     pub image_b : OnlyAsked image_b_most old.image_b new.image_b
     pub log_a : OnlyAsked log_a_most old.log_a new.log_a

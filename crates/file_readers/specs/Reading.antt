@@ -10,7 +10,8 @@ pub record IsSegmentRead (file bytes : List ℕ) : Type 0 where
   pub reads : ReadsAlike bytes file
 
 -- the first bytes of four files that read as all of each
-pub record AreFilesRead {S : Type 0} (content : S → List ℕ) (files : FourFiles S) (image_a image_b log_a log_b : List ℕ) : Type 0 where
+pub record AreFilesRead {S : Type 0} (content : S → List ℕ) (files : FourFiles S)
+    (image_a image_b log_a log_b : List ℕ) : Type 0 where
   pub image_a_read : IsImageRead (content files.image_a) image_a
   pub image_b_read : IsImageRead (content files.image_b) image_b
   pub log_a_read : IsSegmentRead (content files.log_a) log_a

@@ -1,7 +1,9 @@
-ghost use Rattle.std.specs.Prelude.{◌≡◌, ◌⊎◌, ◌+◌, ◌*◌, ◌≤◌, ℕ, [], List, Some, length, take, IsTrue, IfOk, IfErr, OnOk};
+ghost use Rattle.std.specs.Prelude.{◌≡◌, ◌⊎◌, ◌+◌, ◌*◌, ◌≤◌, ℕ, [], List, Some, length, take};
+ghost use Rattle.std.specs.Prelude.{IsTrue, IfOk, IfErr, OnOk};
 ghost use Rattle.disk_model.specs.FourFiles.{KeepsFile, counted_device};
 ghost use Rattle.image_files.specs.Image.{Image, image_of, cells_in};
-ghost use Rattle.image_files.specs.declared.format.TheConstants.{HEADER_BYTES, WORD_BYTES, CELLS_MAX};
+ghost use Rattle.image_files.specs.declared.format.TheConstants.{HEADER_BYTES, WORD_BYTES};
+ghost use Rattle.image_files.specs.declared.format.TheConstants.{CELLS_MAX};
 ghost use Rattle.image_files.specs.ImageRead.{IsImageRead};
 ghost use Rattle.file_readers.specs.Asking.{OnlyAsked};
 
@@ -12,17 +14,22 @@ use image_files::{CELLS_MAX, FIRST_CELLS_MAX, HEADER_BYTES, WORD_BYTES};
 use std::alloc::Global;
 use world_actions::Refusal;
 
-/// The greatest number of bytes of an image that count, 8,388,625. Bytes after its last word are ignored.
+/// The greatest number of bytes of an image that count, 8,388,625. Bytes after its last
+/// word are ignored.
 pub const IMAGE_BYTES_MAX: usize = HEADER_BYTES + WORD_BYTES * CELLS_MAX as usize;
 
-/// Reads an image file as far as its bytes count: its header, and then as many words as the header says.
+/// Reads an image file as far as its bytes count: its header, and then as many words as
+/// the header says.
 pub fn read_image_file<D: Disk>(alloc: Global, disk: &mut D) -> Result<Vec<u8>, Refusal>
-    ensures read { IsTrue D.honest → IfOk result (λ bytes. IsImageRead (D.content disk.old) bytes.items) }
-    ensures exact { IfOk result (λ bytes. (tick : ℕ) (words : List ℕ) → image_of bytes.items ≡ Image.Open tick words
+    ensures read { IsTrue D.honest
+        → IfOk result (λ bytes. IsImageRead (D.content disk.old) bytes.items) }
+    ensures exact { IfOk result (λ bytes. (tick : ℕ) (words : List ℕ)
+        → image_of bytes.items ≡ Image.Open tick words
         → length bytes.items ≡ HEADER_BYTES + WORD_BYTES * length words) }
     ensures most { IfOk result (λ bytes. length bytes.items ≤ IMAGE_BYTES_MAX) }
     ensures asked { OnlyAsked D.called IMAGE_BYTES_MAX disk.old disk.new }
-    ensures no_further { IfOk result (λ bytes. OnlyAsked D.called (length bytes.items) disk.old disk.new) }
+    ensures no_further { IfOk result (λ bytes.
+        OnlyAsked D.called (length bytes.items) disk.old disk.new) }
     ensures kept { IsTrue D.honest → KeepsFile D.content D.may_leave disk.old disk.new }
     ensures faults { D.faults disk.new ≡ counted_device (D.faults disk.old) result }
     ensures refused { IfErr result (λ refusal.
@@ -36,12 +43,15 @@ pub fn read_image_file<D: Disk>(alloc: Global, disk: &mut D) -> Result<Vec<u8>, 
 // Reads an image file as far as its bytes count, into an empty list.
 fn read_image_into<D: Disk>(disk: &mut D, bytes: &mut Vec<u8>) -> Result<(), Refusal>
     requires { bytes.old.items ≡ [] }
-    ensures read { IsTrue D.honest → OnOk result (IsImageRead (D.content disk.old) bytes.new.items) }
-    ensures exact { OnOk result ((tick : ℕ) (words : List ℕ) → image_of bytes.new.items ≡ Image.Open tick words
+    ensures read { IsTrue D.honest
+        → OnOk result (IsImageRead (D.content disk.old) bytes.new.items) }
+    ensures exact { OnOk result
+        ((tick : ℕ) (words : List ℕ) → image_of bytes.new.items ≡ Image.Open tick words
         → length bytes.new.items ≡ HEADER_BYTES + WORD_BYTES * length words) }
     ensures most { OnOk result (length bytes.new.items ≤ IMAGE_BYTES_MAX) }
     ensures asked { OnlyAsked D.called IMAGE_BYTES_MAX disk.old disk.new }
-    ensures no_further { OnOk result (OnlyAsked D.called (length bytes.new.items) disk.old disk.new) }
+    ensures no_further { OnOk result
+        (OnlyAsked D.called (length bytes.new.items) disk.old disk.new) }
     ensures kept { IsTrue D.honest → KeepsFile D.content D.may_leave disk.old disk.new }
     ensures faults { D.faults disk.new ≡ counted_device (D.faults disk.old) result }
     ensures refused { IfErr result (λ refusal.
@@ -53,13 +63,15 @@ fn read_image_into<D: Disk>(disk: &mut D, bytes: &mut Vec<u8>) -> Result<(), Ref
     read_forward(disk, bytes, len.min(end) as usize)
 }
 
-// Returns how many bytes of an image file count at most, by its first ones: a header, or all bytes of a shorter file.
+// Returns how many bytes of an image file count at most, by its first ones: a header, or all bytes
+// of a shorter file.
 #[tactic(auto, unfolding(image_files::specs::Image::image_of))]
 fn image_end(header: &[u8]) -> usize
     requires { length header.now ≤ HEADER_BYTES }
     ensures counts { (file : List ℕ) → header.now ≡ take HEADER_BYTES file
         → image_of (take result file) ≡ image_of file }
-    ensures exact { (cells : ℕ) → HEADER_BYTES ≤ length header.now → cells_in header.now ≡ Some cells
+    ensures exact { (cells : ℕ) → HEADER_BYTES ≤ length header.now
+        → cells_in header.now ≡ Some cells
         → result ≤ HEADER_BYTES + WORD_BYTES * cells }
     ensures least { length header.now ≤ result }
     ensures most { result ≤ IMAGE_BYTES_MAX }
@@ -73,7 +85,8 @@ fn image_end(header: &[u8]) -> usize
     }
 }
 
-// Returns the number of cells in the header of an image, if its format has an image of so many cells.
+// Returns the number of cells in the header of an image, if its format has an image
+// of so many cells.
 fn cells_of(header: &[u8]) -> Option<u64>
     requires { MARK_END ≤ length header.now }
     ensures { result ≡ cells_in header.now }

@@ -1,4 +1,5 @@
-ghost use Rattle.std.specs.Prelude.{◌≡◌, ◌⊎◌, ◌*◌, ◌<◌, ◌≤◌, ℕ, false, min, max, [], List, length, take, IsTrue, IfOk, IfErr, IfSome, IfNone, OnOk};
+ghost use Rattle.std.specs.Prelude.{◌≡◌, ◌⊎◌, ◌*◌, ◌<◌, ◌≤◌, ℕ, false, min, max, [], List, length};
+ghost use Rattle.std.specs.Prelude.{take, IsTrue, IfOk, IfErr, IfSome, IfNone, OnOk};
 ghost use Rattle.disk_model.specs.FourFiles.{KeepsFile, counted_device};
 ghost use Rattle.world_actions.specs.declared.action.Action.{Action};
 ghost use Rattle.action_log.specs.Extent.{IsExtent};
@@ -13,13 +14,15 @@ use disk_model::Disk;
 use std::alloc::Global;
 use world_actions::Refusal;
 
-/// The number of bytes of the first piece in which a segment is read. Each next piece is as long as all before it.
+/// The number of bytes of the first piece in which a segment is read. Each next piece is as long
+/// as all before it.
 pub const PIECE_BYTES: usize = 65_536;
 
-/// Reads a segment file as far as its bytes count. It is read in pieces until a gate ends its groups, or no later byte can
-/// make it a segment.
+/// Reads a segment file as far as its bytes count. It is read in pieces until a gate ends its
+/// groups, or no later byte can make it a segment.
 pub fn read_segment_file<D: Disk>(alloc: Global, disk: &mut D) -> Result<Vec<u8>, Refusal>
-    ensures read { IsTrue D.honest → IfOk result (λ bytes. IsSegmentRead (D.content disk.old) bytes.items) }
+    ensures read { IsTrue D.honest
+        → IfOk result (λ bytes. IsSegmentRead (D.content disk.old) bytes.items) }
     ensures exact { IfOk result (λ bytes. (base : ℕ) (ticks : List (List Action))
         → (segment : IsOpenSegment bytes.items base ticks) → length segment.rest ≤ 1) }
     ensures most { IfOk result (λ bytes. length bytes.items ≤ SEGMENT_BYTES_MAX) }
@@ -39,7 +42,8 @@ pub fn read_segment_file<D: Disk>(alloc: Global, disk: &mut D) -> Result<Vec<u8>
 // Reads a segment file as far as its bytes count, into an empty list.
 fn read_segment_into<D: Disk>(disk: &mut D, bytes: &mut Vec<u8>) -> Result<(), Refusal>
     requires { bytes.old.items ≡ [] }
-    ensures read { IsTrue D.honest → OnOk result (IsSegmentRead (D.content disk.old) bytes.new.items) }
+    ensures read { IsTrue D.honest
+        → OnOk result (IsSegmentRead (D.content disk.old) bytes.new.items) }
     ensures exact { OnOk result ((base : ℕ) (ticks : List (List Action))
         → (segment : IsOpenSegment bytes.new.items base ticks) → length segment.rest ≤ 1) }
     ensures most { OnOk result (length bytes.new.items ≤ SEGMENT_BYTES_MAX) }
@@ -63,17 +67,20 @@ fn read_segment_into<D: Disk>(disk: &mut D, bytes: &mut Vec<u8>) -> Result<(), R
     }
 }
 
-// Returns how many of the first bytes of a segment count, or `None` if more of them have to be read. No more than `most` may
-// be read: all bytes of the file, or as many as the longest segment has.
+// Returns how many of the first bytes of a segment count, or `None` if more of them have to
+// be read. No more than `most` may be read: all bytes of the file, or as many as the
+// longest segment has.
 fn counting(bytes: &[u8], most: usize) -> Option<usize>
     requires { (length bytes.now ≡ most) ⊎ (HEADER_BYTES ≤ length bytes.now) }
-    ensures enough { IfSome result (λ count. (file : List ℕ) → bytes.now ≡ take (length bytes.now) file
+    ensures enough { IfSome result (λ count. (file : List ℕ)
+        → bytes.now ≡ take (length bytes.now) file
         → length bytes.now ≤ most → most ≡ min (length file) SEGMENT_BYTES_MAX
         → IsSegmentRead file (take count bytes.now)) }
     ensures exact { IfSome result (λ count. (base : ℕ) (ticks : List (List Action))
         → (segment : IsOpenSegment (take count bytes.now) base ticks) → length segment.rest ≤ 1) }
     ensures within { IfSome result (λ count. count ≤ length bytes.now) }
-    ensures no_fewer { IfSome result (λ count. (place groups_end ticks : ℕ) → place ≤ length bytes.now
+    ensures no_fewer { IfSome result (λ count. (place groups_end ticks : ℕ)
+        → place ≤ length bytes.now
         → IsExtent (take place bytes.now) groups_end ticks false → place ≤ count) }
     ensures more { IfNone result ((length bytes.now < most)
         × ((groups_end : ℕ) × (ticks : ℕ) × IsExtent bytes.now groups_end ticks false)) }

@@ -19,11 +19,13 @@ pub fn read_files<D: Disk>(
 ) -> Result<FourFiles<Vec<u8>>, Refusal>
     ensures read { IsTrue D.honest → IfOk result (λ read. AreFilesRead D.content files.old
         read.image_a.items read.image_b.items read.log_a.items read.log_b.items) }
-    ensures asked { FilesOnlyAsked D.called IMAGE_BYTES_MAX IMAGE_BYTES_MAX SEGMENT_BYTES_MAX SEGMENT_BYTES_MAX
+    ensures asked { FilesOnlyAsked D.called IMAGE_BYTES_MAX IMAGE_BYTES_MAX
+        SEGMENT_BYTES_MAX SEGMENT_BYTES_MAX
         files.old files.new }
     ensures no_further { IfOk result (λ read. FilesOnlyAsked D.called
         (length read.image_a.items) (length read.image_b.items)
-        (max PIECE_BYTES (2 * length read.log_a.items)) (max PIECE_BYTES (2 * length read.log_b.items))
+        (max PIECE_BYTES (2 * length read.log_a.items))
+        (max PIECE_BYTES (2 * length read.log_b.items))
         files.old files.new) }
     ensures kept { IsTrue D.honest
         → EachFile files.old files.new (KeepsFile D.content D.may_leave) }

@@ -1,5 +1,6 @@
 -- A keeper as contracts see it.
-use Rattle.std.specs.Prelude.{◌≡◌, ℕ, ◌+◌, ◌-◌, ◌*◌, ◌/◌, ◌<◌, ◌≤◌, min, Bool, true, false, Option, Some, None, is_some, List, [], ◌++◌, length, drop, if◌then◌else◌}
+use Rattle.std.specs.Prelude.{◌≡◌, ℕ, ◌+◌, ◌-◌, ◌*◌, ◌/◌, ◌<◌, ◌≤◌, min, Bool, true, false, Option}
+use Rattle.std.specs.Prelude.{Some, None, is_some, List, [], ◌++◌, length, drop, if◌then◌else◌}
 use Rattle.world_ticks.specs.declared.tick.TheConstants.{TICK_MAX}
 use Rattle.file_format.specs.declared.slot.Slot.{Slot}
 use Rattle.file_format.specs.declared.slot.Slot.TheVariants.{A}
@@ -8,7 +9,9 @@ use Rattle.capture_core.specs.declared.taker.Taken.{Taken}
 use Rattle.image_files.specs.declared.format.TheConstants.{CELLS_MAX, HEADER_BYTES}
 use Rattle.image_files.specs.declared.chunk.TheConstants.{CHUNK_CELLS}
 use Rattle.image_files.specs.declared.phase.Phase.{Phase}
-use Rattle.image_files.specs.declared.phase.Phase.TheVariants.{Idle, Closing, ClosingSync, Header, Taking, Reading, Writing, BodySync, Opening, OpeningSync, Down}
+use Rattle.image_files.specs.declared.phase.Phase.TheVariants.{Idle, Closing, ClosingSync, Header}
+use Rattle.image_files.specs.declared.phase.Phase.TheVariants.{Taking, Reading, Writing, BodySync}
+use Rattle.image_files.specs.declared.phase.Phase.TheVariants.{Opening, OpeningSync, Down}
 use Rattle.image_files.specs.Image.{words_from}
 use Rattle.image_files.specs.Images.{Round}
 use Rattle.image_files.specs.Taken.{filled_words, has_same}
@@ -19,7 +22,8 @@ pub record Progress : Type 0 where
   pub cells : ℕ
   -- the file of the newest image, and its tick
   pub newest : Option (Slot × ℕ)
-  -- true if the file that the round writes, or the next round will, is known to be shut; then the same for the other file
+  -- true if the file that the round writes, or the next round will, is known to be shut; then the
+  -- same for the other file
   pub target_shut : Bool
   pub newest_shut : Bool
   pub phase : Phase
@@ -44,11 +48,14 @@ newest_tick (Some newest) = newest.1
 
 -- the words of the newest image, in its file
 abbrev pub newest_words : Progress → (newest : List ℕ) → List ℕ
-newest_words keeper newest = if is_some keeper.newest then words_from newest HEADER_BYTES keeper.cells else []
+newest_words keeper newest =
+    if is_some keeper.newest then words_from newest HEADER_BYTES keeper.cells else []
 
 -- the words taken so far: those in the target, and those of the cells after them
 abbrev pub done : Progress → (target newest : List ℕ) → List ℕ
-done keeper target newest = words_from target HEADER_BYTES keeper.written ++ filled_words keeper.chunk (drop keeper.written (newest_words keeper newest))
+done keeper target newest =
+    words_from target HEADER_BYTES keeper.written
+    ++ filled_words keeper.chunk (drop keeper.written (newest_words keeper newest))
 
 -- the tick of the round in work, and the words taken so far
 abbrev pub round_so_far : Progress → (target newest : List ℕ) → Round
@@ -81,11 +88,16 @@ PhaseFits Closing keeper = (keeper.written ≡ 0) × (keeper.chunk ≡ [])
 PhaseFits ClosingSync keeper = (keeper.written ≡ 0) × (keeper.chunk ≡ [])
 PhaseFits Header keeper = (keeper.written ≡ 0) × (keeper.chunk ≡ [])
 PhaseFits Taking keeper = length keeper.chunk < chunk_size keeper
-PhaseFits Reading keeper = (length keeper.chunk ≡ chunk_size keeper) × (keeper.written < keeper.cells) × (is_some keeper.newest ≡ true)
-PhaseFits Writing keeper = (length keeper.chunk ≡ chunk_size keeper) × (keeper.written < keeper.cells) × (is_some keeper.newest ≡ true → has_same keeper.chunk ≡ false)
+PhaseFits Reading keeper =
+    (length keeper.chunk ≡ chunk_size keeper) × (keeper.written < keeper.cells)
+    × (is_some keeper.newest ≡ true)
+PhaseFits Writing keeper =
+    (length keeper.chunk ≡ chunk_size keeper) × (keeper.written < keeper.cells)
+    × (is_some keeper.newest ≡ true → has_same keeper.chunk ≡ false)
 PhaseFits phase keeper = (keeper.written ≡ keeper.cells) × (keeper.chunk ≡ [])
 
--- the number of cells and the tick are within their bounds, and no more cells are taken than there are
+-- the number of cells and the tick are within their bounds, and no more cells are
+-- taken than there are
 pub record IsInOrder (keeper : Progress) : Type 0 where
   pub some : 1 ≤ keeper.cells
   pub most : keeper.cells ≤ CELLS_MAX
@@ -104,9 +116,15 @@ abbrev pub moves_left : Phase → Progress → ℕ
 moves_left Closing keeper = keeper.cells + 2 * chunks keeper.cells + 6
 moves_left ClosingSync keeper = keeper.cells + 2 * chunks keeper.cells + 5
 moves_left Header keeper = keeper.cells + 2 * chunks keeper.cells + 4
-moves_left Taking keeper = keeper.cells - (keeper.written + length keeper.chunk) + 2 * chunks (keeper.cells - keeper.written) + 3
-moves_left Reading keeper = keeper.cells - (keeper.written + length keeper.chunk) + 2 * chunks (keeper.cells - keeper.written) + 3
-moves_left Writing keeper = keeper.cells - (keeper.written + length keeper.chunk) + 2 * chunks (keeper.cells - keeper.written) + 2
+moves_left Taking keeper =
+    keeper.cells - (keeper.written + length keeper.chunk) + 2
+    * chunks (keeper.cells - keeper.written) + 3
+moves_left Reading keeper =
+    keeper.cells - (keeper.written + length keeper.chunk) + 2
+    * chunks (keeper.cells - keeper.written) + 3
+moves_left Writing keeper =
+    keeper.cells - (keeper.written + length keeper.chunk) + 2
+    * chunks (keeper.cells - keeper.written) + 2
 moves_left BodySync keeper = 3
 moves_left Opening keeper = 2
 moves_left OpeningSync keeper = 1
@@ -133,8 +151,18 @@ made_keeper cells newest shut_a shut_b = record {
 
 -- a round begins
 abbrev pub begun_keeper : ℕ → Progress → Progress
-begun_keeper tick keeper = record keeper { phase = (if keeper.target_shut then Header else Closing); tick = tick; written = 0; chunk = [] }
+begun_keeper tick keeper = record keeper {
+  phase = (if keeper.target_shut then Header else Closing);
+  tick = tick;
+  written = 0;
+  chunk = [];
+}
 
 -- the image of the round is opened: it is the newest one, and the files exchange their parts
 abbrev pub opened_keeper : Progress → Progress
-opened_keeper keeper = record keeper { phase = Idle; newest = Some (target_of keeper.newest, keeper.tick); target_shut = keeper.newest_shut; newest_shut = false }
+opened_keeper keeper = record keeper {
+  phase = Idle;
+  newest = Some (target_of keeper.newest, keeper.tick);
+  target_shut = keeper.newest_shut;
+  newest_shut = false;
+}

@@ -23,7 +23,8 @@ pub fn any_same(cells: &[Taken]) -> bool
     false
 }
 
-/// Gives the cells without a word of their own the words in these bytes, which are the newest image's.
+/// Gives the cells without a word of their own the words in these bytes, which are
+/// the newest image's.
 pub fn fill(cells: &mut [Taken], bytes: &[u8])
     requires { WORD_BYTES * length cells.old ≤ length bytes.now }
     ensures { cells.new ≡ map (λ word. Taken.Word word)

@@ -4,10 +4,12 @@ ghost use Rattle.world_actions.specs.World.{IsWorld};
 ghost use Rattle.world_ticks.specs.declared.tick.TheConstants.{TICK_MAX};
 ghost use Rattle.file_format.specs.declared.gate.TheConstants.{OPEN_GATE, CLOSED_GATE};
 ghost use Rattle.file_format.specs.Gate.{HasOpenGate};
-ghost use Rattle.file_format.specs.declared.format.TheConstants.{MARK_PLACE, MARK_END, NUMBERS, SECOND_MARK};
+ghost use Rattle.file_format.specs.declared.format.TheConstants.{MARK_PLACE, MARK_END, NUMBERS};
+ghost use Rattle.file_format.specs.declared.format.TheConstants.{SECOND_MARK};
 ghost use Rattle.file_format.specs.declared.format.Format.{Format};
 ghost use Rattle.file_format.specs.Number.{IsBytes};
-ghost use Rattle.image_files.specs.Image.{Image, image_of, image_bytes, header_bytes, cells_most, cells_in, tick_in};
+ghost use Rattle.image_files.specs.Image.{Image, image_of, image_bytes, header_bytes, cells_most};
+ghost use Rattle.image_files.specs.Image.{cells_in, tick_in};
 
 use file_format::{
     Format, marked, marked_at, marks_read_back, numbers_read_back, u64_at, write_u64_at,
@@ -20,7 +22,8 @@ pub const FIRST_CELLS_MAX: u64 = 65_536;
 /// least is 1.
 pub const CELLS_MAX: u64 = 1_048_576;
 
-/// The place of the tick, after the gate and the number of cells. The number of cells has the mark of the format.
+/// The place of the tick, after the gate and the number of cells. The number of cells has the
+/// mark of the format.
 pub const TICK_PLACE: usize = 9;
 
 /// The number of bytes of a word, and of each other number of an image.
@@ -29,9 +32,9 @@ pub const WORD_BYTES: usize = 8;
 /// The number of bytes of the gate, the number of cells and the tick. The words follow.
 pub const HEADER_BYTES: usize = 17;
 
-/// Laws: the bytes of an image are read back in each format, whatever follows. An open file begins with the bytes of its
-/// image in one of the formats, and the image is of a world. A file reads as closed exactly if it is too short for a
-/// header or its gate isn't open.
+/// Laws: the bytes of an image are read back in each format, whatever follows. An open file begins
+/// with the bytes of its image in one of the formats, and the image is of a world. A file reads as
+/// closed exactly if it is too short for a header or its gate isn't open.
 #[tactic(auto, unfolding(crate::specs::Image::image_of))]
 pub fn images_read_back()
     ensures read { (format : Format) (tick : ℕ) (words rest : List ℕ) → tick ≤ TICK_MAX
@@ -53,7 +56,8 @@ pub fn images_read_back()
 /// Law: the numbers of an image file. The definitions of the format cite the constants.
 pub fn image_numbers()
     ensures gates { (OPEN_GATE ≡ 1) × (CLOSED_GATE ≡ 0) }
-    ensures marks { (MARK_PLACE ≡ 1) × (MARK_END ≡ 9) × (NUMBERS ≡ 2 ^ 60) × (SECOND_MARK ≡ 2 ^ 61) }
+    ensures marks { (MARK_PLACE ≡ 1) × (MARK_END ≡ 9) × (NUMBERS ≡ 2 ^ 60)
+        × (SECOND_MARK ≡ 2 ^ 61) }
     ensures places { (TICK_PLACE ≡ 9) × (HEADER_BYTES ≡ 17) × (WORD_BYTES ≡ 8) }
     ensures cells { (FIRST_CELLS_MAX ≡ 65_536) × (CELLS_MAX ≡ 1_048_576) }
     ensures limits { (LIMIT ≡ 999_999_999_999_999_999) × (TICK_MAX ≡ 1_000_000_000_000_000_000) }
@@ -69,7 +73,8 @@ pub fn cells_most(format: Format) -> u64
     }
 }
 
-/// Writes the number of cells and the tick to the front of a buffer, as the second format has them after the gate.
+/// Writes the number of cells and the tick to the front of a buffer, as the second format has
+/// them after the gate.
 #[tactic(auto, unfolding(file_format::specs::Number::number_bytes))]
 pub fn encode_header(buffer: &mut [u8], cells: u64, tick: u64)
     requires room { 2 * WORD_BYTES ≤ length buffer.old }
@@ -80,8 +85,8 @@ pub fn encode_header(buffer: &mut [u8], cells: u64, tick: u64)
     write_u64_at(buffer, WORD_BYTES, tick);
 }
 
-/// Returns the number of cells in the header of a file. It is `None` if the mark is of neither format, or its format has
-/// no image of so many cells.
+/// Returns the number of cells in the header of a file. It is `None` if the mark is of neither
+/// format, or its format has no image of so many cells.
 pub fn decode_cells(bytes: &[u8]) -> Option<u64>
     requires { MARK_END ≤ length bytes.now }
     ensures { result ≡ cells_in bytes.now }

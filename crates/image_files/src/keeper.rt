@@ -1,4 +1,6 @@
-ghost use Rattle.std.specs.Prelude.{◌≡◌, ◌+◌, ◌*◌, ◌/◌, if◌then◌else◌, ◌≤◌, ◌<◌, ◌⊎◌, ◌↔◌, ℕ, List, [], false, get_or, IsTrue, OnOk, OnErr, IfOk, IfErr, IfNone, Option, Some, None, ⊤};
+ghost use Rattle.std.specs.Prelude.{◌≡◌, ◌+◌, ◌*◌, ◌/◌, if◌then◌else◌, ◌≤◌, ◌<◌, ◌⊎◌, ◌↔◌, ℕ, List};
+ghost use Rattle.std.specs.Prelude.{[], false, get_or, IsTrue, OnOk, OnErr, IfOk, IfErr, IfNone};
+ghost use Rattle.std.specs.Prelude.{Option, Some, None, ⊤};
 ghost use Rattle.world_ticks.specs.declared.tick.TheConstants.{TICK_MAX};
 ghost use Rattle.file_format.specs.Slot.{of_slot, in_slot};
 ghost use Rattle.capture_core.specs.declared.taker.Taken.{Taken};
@@ -6,10 +8,12 @@ ghost use Rattle.image_files.specs.declared.format.TheConstants.{CELLS_MAX};
 ghost use Rattle.image_files.specs.declared.phase.Phase.TheVariants.{Idle, Closing, Taking, Down};
 ghost use Rattle.image_files.specs.Image.{Image, image_of};
 ghost use Rattle.image_files.specs.Images.{ImageFiles, StepsImages};
-ghost use Rattle.image_files.specs.Progress.{target_of, done, cells_taken, left_of, made_keeper, begun_keeper, opened_keeper};
+ghost use Rattle.image_files.specs.Progress.{target_of, done, cells_taken, left_of, made_keeper};
+ghost use Rattle.image_files.specs.Progress.{begun_keeper, opened_keeper};
 ghost use Rattle.image_files.specs.Keeper.{Fits, Endures};
 ghost use Rattle.image_files.specs.Files.{done_in, FitsFiles, DisksStand};
-ghost use Rattle.image_files.specs.Steps.{IfOpened, OnOpened, OnWorking, CallsIn, closed, TookWord, HasCause, IsOnlyRead, IsOpenedImage};
+ghost use Rattle.image_files.specs.Steps.{IfOpened, OnOpened, OnWorking, CallsIn, closed, TookWord};
+ghost use Rattle.image_files.specs.Steps.{HasCause, IsOnlyRead, IsOpenedImage};
 ghost use Rattle.image_files.specs.Calls.{TookCell};
 
 use crate::answer::ImageAnswer;
@@ -54,10 +58,10 @@ impl Model for ImageKeeper {
 }
 
 impl ImageKeeper {
-    /// Makes a keeper of two files for a world of `cells` cells, with no round in work. It reserves all that it ever
-    /// uses. `shut` is exactly what `is_shut` returns for the durable bytes of image.a and image.b. Don't pass `false` to
-    /// be safe. A shut file is then closed again, and a crash during that write can leave it open over bytes that are no
-    /// image.
+    /// Makes a keeper of two files for a world of `cells` cells, with no round in work. It reserves
+    /// all that it ever uses. `shut` is exactly what `is_shut` returns for the durable bytes of
+    /// image.a and image.b. Don't pass `false` to be safe. A shut file is then closed again, and a
+    /// crash during that write can leave it open over bytes that are no image.
     pub fn new(
         alloc: Global,
         cells: u32,
@@ -104,7 +108,8 @@ impl ImageKeeper {
         self.newest
     }
 
-    /// Returns the number of moves that the round can still need. It is 0 if no round is in work or the keeper is down.
+    /// Returns the number of moves that the round can still need. It is 0 if no round is in work or
+    /// the keeper is down.
     pub fn left(&self) -> u64
         ensures { result ≡ left_of self.now }
     {
@@ -146,8 +151,8 @@ impl ImageKeeper {
         self.phase == Phase::Taking
     }
 
-    /// Begins a round. It needs one move for each cell, at most two for each chunk of 64, and six others. These are four
-    /// if the target is known to be shut.
+    /// Begins a round. It needs one move for each cell, at most two for each chunk of 64, and six
+    /// others. These are four if the target is known to be shut.
     pub fn begin(&mut self, tick: u64)
         requires idle { self.old.phase ≡ Idle }
         requires most { tick ≤ TICK_MAX }
@@ -168,8 +173,9 @@ impl ImageKeeper {
         };
     }
 
-    /// Makes the next step: one take, or at most one device call. The two files are the keeper's own, and nothing else
-    /// may change them. The round writes one of them. The other holds the newest image, once there is one.
+    /// Makes the next step: one take, or at most one device call. The two files are the keeper's
+    /// own, and nothing else may change them. The round writes one of them. The other holds the
+    /// newest image, once there is one.
     pub fn step<T: Taker, D: Disk>(
         &mut self,
         from: &mut T,
@@ -179,8 +185,9 @@ impl ImageKeeper {
         requires fits { IsTrue D.honest
             → FitsFiles self.old (D.content image_a.old) (D.content image_b.old) }
 
-        // Answers: Idle if no round is in work. Opened if the last call of a round succeeded, which ends the round. Down
-        // from a failed call on. Else Working. With Idle, and once it is down, nothing changes.
+        // Answers: Idle if no round is in work. Opened if the last call of a round succeeded, which
+        // ends the round. Down from a failed call on. Else Working. With Idle, and once it is down,
+        // nothing changes.
         ensures idle { (result ≡ ImageAnswer.Idle) ↔ (self.old.phase ≡ Idle) }
         ensures ended { IfOpened result (self.new ≡ opened_keeper self.old)
             ((self.new.tick ≡ self.old.tick) × (self.new.newest ≡ self.old.newest)) }
@@ -189,22 +196,26 @@ impl ImageKeeper {
         ensures rests { (self.old.phase ≡ Idle) ⊎ (self.old.phase ≡ Down)
             → (self.new ≡ self.old) × (image_a.new ≡ image_a.old) × (image_b.new ≡ image_b.old) }
 
-        // Counts: a round that continues has less left, except if a take gave no cell while cells were still to be taken.
+        // Counts: a round that continues has less left, except if a take gave no cell while cells
+        // were still to be taken.
         ensures working { OnWorking result ((left_of self.new < left_of self.old)
             ⊎ ((cells_taken self.old < self.old.cells) × T.took from.old None from.new
             × (from.new ≡ from.old) × (self.new ≡ self.old))) }
         ensures cells { self.new.cells ≡ self.old.cells }
 
-        // Takes: a step takes a cell, or leaves the taker. All cells are taken when the image is opened.
+        // Takes: a step takes a cell, or leaves the taker. All cells are taken when the
+        // image is opened.
         ensures taken { ((from.new ≡ from.old)
             × IfOpened result ⊤ (cells_taken self.new ≡ cells_taken self.old))
             ⊎ ((cell : Taken) × T.took from.old (Some cell) from.new
             × (cells_taken self.new ≡ cells_taken self.old + 1)) }
         ensures all_taken { IfOpened result (cells_taken self.old ≡ self.old.cells) ⊤ }
 
-        // Words: a take adds the cell's own word, or the newest image's word of that cell. No other step changes the
-        // words. An opened image has the words of the round, whatever a crash leaves.
-        ensures took { self.old.phase ≡ Taking → (cell : Option Taken) × T.took from.old cell from.new
+        // Words: a take adds the cell's own word, or the newest image's word of that cell.
+        // No other step changes the words. An opened image has the words of the round,
+        // whatever a crash leaves.
+        ensures took { self.old.phase ≡ Taking
+            → (cell : Option Taken) × T.took from.old cell from.new
             × (IsTrue D.honest → TookWord cell self.old
             (of_slot (target_of self.old.newest) (D.content image_b.old) (D.content image_a.old))
             (done_in self.old (D.content image_a.old) (D.content image_b.old))
@@ -215,11 +226,12 @@ impl ImageKeeper {
         ensures opened { IsTrue D.honest → OnOpened result (IsOpenedImage self.old
             (done_in self.old (D.content image_a.old) (D.content image_b.old))
             (of_slot (target_of self.old.newest) (D.content image_a.new) (D.content image_b.new))
-            (in_slot (target_of self.old.newest) (D.may_leave image_a.new) (D.may_leave image_b.new))) }
+            (in_slot (target_of self.old.newest) (D.may_leave image_a.new)
+            (D.may_leave image_b.new))) }
 
-        // Disks: by the keeper's phase there is no call, or one call on one of the disks. The newest image's file is only
-        // read. Down comes only once a call failed, and no failure is passed over. A file is closed by the closed gate,
-        // and by no other byte.
+        // Disks: by the keeper's phase there is no call, or one call on one of the disks. The
+        // newest image's file is only read. Down comes only once a call failed, and no failure is
+        // passed over. A file is closed by the closed gate, and by no other byte.
         ensures newest { IsOnlyRead D.honest D.content D.may_leave
             (of_slot (target_of self.old.newest) image_b.old image_a.old)
             (of_slot (target_of self.old.newest) image_b.new image_a.new) }
@@ -232,15 +244,18 @@ impl ImageKeeper {
             (D.faults image_b.old) (D.faults image_b.new) }
         ensures closes { IsTrue D.honest → self.old.phase ≡ Closing → OnWorking result
             (of_slot (target_of self.old.newest) (D.content image_a.new) (D.content image_b.new)
-            ≡ closed (of_slot (target_of self.old.newest) (D.content image_a.old) (D.content image_b.old))) }
+            ≡ closed
+            (of_slot (target_of self.old.newest) (D.content image_a.old) (D.content image_b.old))) }
 
-        // Crashes: the next step may be made. The images that keeper and files represent change by takes and openings.
-        // `images_stay` begins that relation, and states what a crash leaves of such files.
+        // Crashes: the next step may be made. The images that keeper and files represent change
+        // by takes and openings. `images_stay` begins that relation, and states what a crash
+        // leaves of such files.
         ensures fits { IsTrue D.honest
             → FitsFiles self.new (D.content image_a.new) (D.content image_b.new) }
         ensures stands { IsTrue D.honest → (images : ImageFiles)
             → DisksStand D.content D.may_leave self.old images image_a.old image_b.old
-            → (next : ImageFiles) × DisksStand D.content D.may_leave self.new next image_a.new image_b.new
+            → (next : ImageFiles)
+            × DisksStand D.content D.may_leave self.new next image_a.new image_b.new
             × StepsImages T.took self.old.cells images result next from.old from.new }
     {
         match self.target() {
@@ -251,8 +266,8 @@ impl ImageKeeper {
 }
 
 impl ImageKeeper {
-    // Makes a step by the keeper's phase. States its effect on the phase, on the words so far, and on the bytes that a
-    // crash may leave.
+    // Makes a step by the keeper's phase. States its effect on the phase, on the words so far, and
+    // on the bytes that a crash may leave.
     #[tactic(auto, unfolding(crate::specs::Image::image_of))]
     fn step_by_phase<T: Taker, D: Disk>(
         &mut self,
@@ -263,7 +278,8 @@ impl ImageKeeper {
         requires fits { IsTrue D.honest
             → Fits self.old (D.content target.old) (D.content newest.old) }
 
-        // The next step may be made. An opened image is the newest one, and its file is the newest image's file.
+        // The next step may be made. An opened image is the newest one, and its file is the
+        // newest image's file.
         ensures fits { IsTrue D.honest → IfOpened result
             (Fits self.new (D.content newest.new) (D.content target.new))
             (Fits self.new (D.content target.new) (D.content newest.new)) }
@@ -282,7 +298,8 @@ impl ImageKeeper {
 
         // A step takes a cell, whose word is then done, or leaves the taker and the words.
         ensures took { self.old.phase ≡ Taking → (cell : Option Taken)
-            × T.took from.old cell from.new × IfNone cell (from.new ≡ from.old) × TookCell cell self.old self.new
+            × T.took from.old cell from.new × IfNone cell (from.new ≡ from.old)
+            × TookCell cell self.old self.new
             × (IsTrue D.honest → TookWord cell self.old (D.content newest.old)
             (done self.old (D.content target.old) (D.content newest.old))
             (done self.new (D.content target.new) (D.content newest.new))) }

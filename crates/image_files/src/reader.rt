@@ -1,4 +1,5 @@
-ghost use Rattle.std.specs.Prelude.{◌≡◌, ◌+◌, ◌*◌, ◌≤◌, ◌⊎◌, [], true, false, nat_le, length, vec_capacity, IsTrue, IfOk, IfErr};
+ghost use Rattle.std.specs.Prelude.{◌≡◌, ◌+◌, ◌*◌, ◌≤◌, ◌⊎◌, [], true, false, nat_le, length};
+ghost use Rattle.std.specs.Prelude.{vec_capacity, IsTrue, IfOk, IfErr};
 ghost use Rattle.std.specs.List.{list_all};
 ghost use Rattle.image_files.specs.declared.format.TheConstants.{CELLS_MAX};
 ghost use Rattle.image_files.specs.Image.{image_of, is_word, words_from};
@@ -20,8 +21,9 @@ pub enum ImageState {
 
 ghost use Rattle.image_files.specs.Reading.{ReadsAs};
 
-/// Reads a file of any bytes, in either format. It refuses with `BadImage`, and with `NoMemory` only for an image that is
-/// whole. It takes memory for no more words than the file has bytes for. Each word is judged as it is read.
+/// Reads a file of any bytes, in either format. It refuses with `BadImage`, and with `NoMemory`
+/// only for an image that is whole. It takes memory for no more words than the file has bytes for.
+/// Each word is judged as it is read.
 #[tactic(auto, unfolding(crate::specs::Image::image_of))]
 pub fn read_image(alloc: Global, bytes: &[u8]) -> Result<ImageState, Refusal>
     ensures { ReadsAs result (image_of bytes.now) }
@@ -48,13 +50,15 @@ fn has_words(bytes: &[u8], cells: usize) -> bool
     HEADER_BYTES + WORD_BYTES * cells <= bytes.len()
 }
 
-// Reads the words of a file that is long enough for them. If there is no memory for them, they are only judged.
+// Reads the words of a file that is long enough for them. If there is no memory for them, they
+// are only judged.
 fn read_words(alloc: Global, bytes: &[u8], cells: usize) -> Result<Vec<u64>, Refusal>
     requires { HEADER_BYTES + WORD_BYTES * cells ≤ length bytes.now }
     ensures read { IfOk result (λ words. (words.items ≡ words_from bytes.now HEADER_BYTES cells)
         × (list_all is_word (words_from bytes.now HEADER_BYTES cells) ≡ true)) }
     ensures refused { IfErr result (λ refusal. ((refusal ≡ Refusal.NoMemory)
-        × (list_all is_word (words_from bytes.now HEADER_BYTES cells) ≡ true)) ⊎ ((refusal ≡ Refusal.BadImage)
+        × (list_all is_word (words_from bytes.now HEADER_BYTES cells) ≡ true))
+        ⊎ ((refusal ≡ Refusal.BadImage)
         × (list_all is_word (words_from bytes.now HEADER_BYTES cells) ≡ false))) }
 {
     match Vec::with_capacity(alloc, cells) {
@@ -70,8 +74,8 @@ fn read_words(alloc: Global, bytes: &[u8], cells: usize) -> Result<Vec<u64>, Ref
     }
 }
 
-// Puts the words of a file into a list that has room for them, up to the first that a cell may not hold. Returns true if
-// there is no such word.
+// Puts the words of a file into a list that has room for them, up to the first that a cell may not
+// hold. Returns true if there is no such word.
 fn push_words(words: &mut Vec<u64>, bytes: &[u8], cells: usize) -> bool
     requires long { HEADER_BYTES + WORD_BYTES * cells ≤ length bytes.now }
     requires none { words.old.items ≡ [] }

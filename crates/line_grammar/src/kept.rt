@@ -6,8 +6,8 @@ use std::alloc::Global;
 use std::marker::Model;
 use world_actions::Refusal;
 
-/// The first bytes of a line that has not ended, as many as decide its meaning. These are at most one more than a line
-/// with a meaning can have. Contracts see these bytes.
+/// The first bytes of a line that has not ended, as many as decide its meaning. These are at most
+/// one more than a line with a meaning can have. Contracts see these bytes.
 #[derive(Drop)]
 pub struct KeptLine {
     bytes: Vec<u8>,
@@ -21,7 +21,8 @@ impl Model for KeptLine {
 
     ghost view = { λ line. line.bytes.items };
 
-    ghost invariant = { λ line. (vec_len line.bytes ≤ LINE_BYTES + 1) × (LINE_BYTES + 1 ≤ vec_capacity line.bytes) };
+    ghost invariant = { λ line. (vec_len line.bytes ≤ LINE_BYTES + 1)
+        × (LINE_BYTES + 1 ≤ vec_capacity line.bytes) };
 }
 
 impl KeptLine {
@@ -35,7 +36,8 @@ impl KeptLine {
         })
     }
 
-    /// Takes the line's next byte. Keeps it, unless so many bytes are kept that the line means nothing, whatever follows.
+    /// Takes the line's next byte. Keeps it, unless so many bytes are kept that the line means
+    /// nothing, whatever follows.
     pub fn push(&mut self, byte: u8)
         ensures { self.new ≡ kept_of (self.old ++ byte ∷ []) }
     {

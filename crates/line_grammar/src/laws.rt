@@ -21,11 +21,13 @@ pub fn command_length()
     ensures { (command : Command) → IsInBounds command → length (spelling command) ≤ LINE_BYTES }
 {}
 
-/// Laws: the bytes that are kept of a line one by one are those that are kept of it at once. They decide the line's
-/// meaning.
+/// Laws: the bytes that are kept of a line one by one are those that are kept of it at once. They
+/// decide the line's meaning.
 pub fn kept_bytes()
-    ensures next { (line : List ℕ) (byte : ℕ) → kept_of (line ++ byte ∷ []) ≡ kept_of (kept_of line ++ byte ∷ []) }
-    ensures means { (kept : List ℕ) (meaning : Option Command) → Means kept meaning → KeptMeans Means kept meaning }
+    ensures next { (line : List ℕ) (byte : ℕ)
+        → kept_of (line ++ byte ∷ []) ≡ kept_of (kept_of line ++ byte ∷ []) }
+    ensures means { (kept : List ℕ) (meaning : Option Command) → Means kept meaning
+        → KeptMeans Means kept meaning }
 {
     command_length();
 }

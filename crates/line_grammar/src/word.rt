@@ -1,7 +1,8 @@
 ghost use Rattle.std.specs.Prelude.{◌≡◌, ◌≢◌, List, ℕ, ◌∷◌, ◌++◌, IfSome, IfNone};
 ghost use Rattle.line_grammar.specs.Word.{HasNoSpace};
 
-/// Returns the bytes after a word at the front of a line. If the word ends in a space, the line must have that space.
+/// Returns the bytes after a word at the front of a line. If the word ends in a space, the line
+/// must have that space.
 pub fn after<'a>(line: &'a [u8], word: &[u8]) -> Option<&'a [u8]>
     ensures found { IfSome result (λ rest. line.now ≡ word.now ++ rest.now) }
     ensures none { IfNone result ((rest : List ℕ) → line.now ≢ word.now ++ rest) }

@@ -11,8 +11,10 @@ no_calls = record { made = 0; syncs = 0; written = 0; read = 0 }
 -- the counts with one more call
 abbrev pub with_call : Call → Calls → Calls
 with_call Length calls = record calls { made = sum_of calls.made 1 }
-with_call (Read at count) calls = record calls { made = sum_of calls.made 1; read = sum_of calls.read count }
-with_call (Write at bytes) calls = record calls { made = sum_of calls.made 1; written = sum_of calls.written (length bytes) }
+with_call (Read at count) calls =
+    record calls { made = sum_of calls.made 1; read = sum_of calls.read count }
+with_call (Write at bytes) calls =
+    record calls { made = sum_of calls.made 1; written = sum_of calls.written (length bytes) }
 with_call Sync calls = record calls { made = sum_of calls.made 1; syncs = sum_of calls.syncs 1 }
 
 -- the sums of the counts of two disks

@@ -12,8 +12,8 @@ use world_actions::{Action, Refusal};
 use world_ticks::{Tick, Words, act};
 use zigzag::Zigzag;
 
-/// Makes calls, each in its own stretch, and prints for each the most allocations that it may make. The script
-/// `scripts/count_allocations.py` counts those of each stretch.
+/// Makes calls, each in its own stretch, and prints for each the most allocations that it may make.
+/// The script `scripts/count_allocations.py` counts those of each stretch.
 pub fn make_calls<R: Print + AllocGlobal>(rt: &R) -> Result<(), Error> {
     let mut words = Words::new(zeros(rt.alloc(), CELLS)?);
     do_action(rt, &mut words, &mut Tick::new(rt.alloc()))?;

@@ -7,7 +7,8 @@ use std::alloc::Global;
 use std::fmt::{self, Display, Formatter, Write};
 use world_actions::Refusal;
 
-/// The calls on a disk: how many, how many of them syncs, and how many bytes they were to write and to read.
+/// The calls on a disk: how many, how many of them syncs, and how many bytes they were to
+/// write and to read.
 #[derive(Clone, Copy)]
 pub struct Calls {
     pub made: u64,

@@ -24,8 +24,8 @@ struct Counts {
     same: u64,
 }
 
-/// Prints for each store what its takes hand out, and how many bytes a cell needs. A cell needs some words of 8 bytes, and
-/// some marks, of which 64 are in a word.
+/// Prints for each store what its takes hand out, and how many bytes a cell needs. A cell needs
+/// some words of 8 bytes, and some marks, of which 64 are in a word.
 pub fn report_counts<R: Print + AllocGlobal>(rt: &R) -> Result<(), Error> {
     report_owned(rt)?;
     report_shared(rt)

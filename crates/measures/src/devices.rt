@@ -48,8 +48,8 @@ fn report_round<R: Print + AllocGlobal, C: Capture>(rt: &R, method: &str) -> Res
     report_third_round(rt, method, &mut rounds)
 }
 
-// Counts the third round. Both files have an image by then, and the newest one has the words of the cells that weren't
-// written since.
+// Counts the third round. Both files have an image by then, and the newest one has the words of the
+// cells that weren't written since.
 fn report_third_round<R: Print, C: Capture>(
     rt: &R,
     method: &str,

@@ -33,7 +33,8 @@ pub struct Figures {
     pub random_read: Times,
     pub take: Times,
     pub mark: Times,
-    /// The sum of the words that were read and taken. It is printed, so that the compiler can't leave out a read or a take.
+    /// The sum of the words that were read and taken. It is printed, so that the compiler can't
+    /// leave out a read or a take.
     pub sum: u64,
 }
 
@@ -94,7 +95,8 @@ impl Figures {
         Ok(self.take.push(picoseconds(time, takes))?)
     }
 
-    // Times a mark. It calls the clock once before, because the first call after many writes takes longer.
+    // Times a mark. It calls the clock once before, because the first call after many
+    // writes takes longer.
     fn time_mark<R: Clock, S: Store>(
         &mut self,
         rt: &R,

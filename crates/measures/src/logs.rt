@@ -19,7 +19,8 @@ pub const GROUPS: usize = SEGMENT_TICKS / GROUP_TICKS;
 /// More bytes than a full segment of such ticks has, 2^22.
 const FILE_BYTES: u64 = 4_194_304;
 
-/// A log that is written: its keeper, its queue, and its two files. `since` ticks are queued or written above `base`.
+/// A log that is written: its keeper, its queue, and its two files. `since` ticks are queued or
+/// written above `base`.
 #[derive(Drop)]
 pub struct Log {
     keeper: LogKeeper,

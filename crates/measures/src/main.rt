@@ -1,7 +1,8 @@
-//! The program `measures`. Without a command it counts what the takes of each store hand out over one list of moves, and how
-//! much memory a cell needs. It also counts the calls on the files of a log and of images. These figures are the same on
-//! each machine. With `all` it measures how fast the stores, the keepers and recovery are on this one. With `allocations` it
-//! makes calls whose allocations can be counted from outside.
+//! The program `measures`. Without a command it counts what the takes of each store hand out over
+//! one list of moves, and how much memory a cell needs. It also counts the calls on the files of a
+//! log and of images. These figures are the same on each machine. With `all` it measures how fast
+//! the stores, the keepers and recovery are on this one. With `allocations` it makes calls whose
+//! allocations can be counted from outside.
 #![tactic(auto)]
 
 mod allocations;
@@ -86,7 +87,8 @@ fn measure_all<R: Print + AllocGlobal + Clock + Env + Files + Threads + Sync>(
     )
 }
 
-// Measures the keepers and recovery. `take` is the time of a take of Zigzag in picoseconds, for comparison.
+// Measures the keepers and recovery. `take` is the time of a take of Zigzag in
+// picoseconds, for comparison.
 fn measure_files<R: Print + AllocGlobal + Clock + Env + Files>(
     rt: &R,
     take: u64,

@@ -42,7 +42,8 @@ pub struct PairSpeed {
     pub takes: Speed,
 }
 
-/// Times one thread that writes and marks, and another one that takes. They don't wait for one another.
+/// Times one thread that writes and marks, and another one that takes. They don't wait
+/// for one another.
 pub fn time_pair<M: Method + Send + 'static, R: Threads + Clock + Sync>(
     rt: &R,
     cells: usize,

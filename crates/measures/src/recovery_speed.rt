@@ -31,7 +31,8 @@ pub struct RecoverySpeed {
     pub segment: Times,
     /// How many bytes that segment has.
     pub segment_bytes: u64,
-    /// The sum of the recovered ticks and words. It is printed, so that the compiler can't leave out a recovery.
+    /// The sum of the recovered ticks and words. It is printed, so that the compiler can't
+    /// leave out a recovery.
     pub sum: u64,
 }
 

@@ -10,8 +10,8 @@ pub const ACTIONS: usize = 4;
 /// How many actions a full segment has.
 pub const SEGMENT_ACTIONS: u64 = (SEGMENT_TICKS * ACTIONS) as u64;
 
-/// A tick of four actions on two cells of 65,536: a set, an addition, a transfer and another addition. If words are below
-/// 2^50, none of them is refused.
+/// A tick of four actions on two cells of 65,536: a set, an addition, a transfer and another
+/// addition. If words are below 2^50, none of them is refused.
 pub fn busy_tick(alloc: Global, number: u64) -> Result<Tick, Refusal> {
     let first = cell_of(number);
     let second = first ^ 1;

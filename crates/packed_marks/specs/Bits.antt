@@ -1,5 +1,6 @@
 -- Marks of cells, 64 to a word.
-use Rattle.std.specs.Prelude.{◌≡◌, ℕ, ◌+◌, ◌*◌, ◌/◌, ◌%◌, ◌<◌, ◌≤◌, ◌==◌, List, length, slice_index, Bool, true, false}
+use Rattle.std.specs.Prelude.{◌≡◌, ℕ, ◌+◌, ◌*◌, ◌/◌, ◌%◌, ◌<◌, ◌≤◌, ◌==◌, List, length, slice_index}
+use Rattle.std.specs.Prelude.{Bool, true, false}
 use Rattle.std.specs.Int.{bit_at}
 
 -- the number of words that the marks of n cells take

@@ -1,4 +1,5 @@
-ghost use Rattle.std.specs.Prelude.{◌≡◌, ◌<◌, ◌*◌, ℕ, length, map, not, replicate, slice_index_or, slice_set, false, IfOk};
+ghost use Rattle.std.specs.Prelude.{◌≡◌, ◌<◌, ◌*◌, ℕ, length, map, not, replicate, slice_index_or};
+ghost use Rattle.std.specs.Prelude.{slice_set, false, IfOk};
 ghost use Rattle.packed_marks.specs.Bits.{marked};
 ghost use Rattle.packed_marks.specs.Marks.{marks_of, IsPacked};
 
@@ -82,7 +83,8 @@ fn equal_marks(alloc: Global, cells: usize, set: bool) -> Result<Vec<u64>, Alloc
 fn invert(words: &[u64], others: &mut [u64])
     requires { length others.old ≡ length words.now }
     ensures words { length others.new ≡ length words.now }
-    ensures marks { (i : ℕ) → i < 64 * length words.now → marked others.new i ≡ not (marked words.now i) }
+    ensures marks { (i : ℕ) → i < 64 * length words.now
+        → marked others.new i ≡ not (marked words.now i) }
 {
     for (k, word) in words.iter().enumerate() {
         others[k] = !*word;

@@ -1,10 +1,12 @@
 -- The live words, the two arrays of entries, and the effect of each call on them.
-use Rattle.std.specs.Prelude.{◌≡◌, ◌≤◌, ◌+◌, ℕ, Bool, true, false, not, List, [], ◌∷◌, Option, length, take, drop, replicate, All, slice_set, if◌then◌else◌}
+use Rattle.std.specs.Prelude.{◌≡◌, ◌≤◌, ◌+◌, ℕ, Bool, true, false, not, List, [], ◌∷◌, Option}
+use Rattle.std.specs.Prelude.{length, take, drop, replicate, All, slice_set, if◌then◌else◌}
 use Rattle.std.specs.Bool.{then_some}
 use Rattle.world_actions.specs.World.{IsWord}
 use Rattle.capture_core.specs.Content.{Content}
 
--- the live words, the words and the dirty marks of both arrays, and the number of taken cells of the round
+-- the live words, the words and the dirty marks of both arrays, and the number of taken
+-- cells of the round
 pub record Arrays : Type 0 where
   pub live : List ℕ
   pub current_words : List ℕ
@@ -34,9 +36,14 @@ previous_entries store = dirty_words store.previous_dirty store.previous_words
 
 -- the content of a store: a cell is touched if its entry in the current array is dirty
 abbrev pub content_of : Arrays → Content
-content_of store = record { live = store.live; touched = store.current_dirty; left = drop store.taken (previous_entries store) }
+content_of store = record {
+  live = store.live;
+  touched = store.current_dirty;
+  left = drop store.taken (previous_entries store);
+}
 
--- the facts that hold for every store; a dirty entry of the current array has the live word, and a taken entry is clean
+-- the facts that hold for every store; a dirty entry of the current array has the live word, and a
+-- taken entry is clean
 pub record IsInOrder (store : Arrays) : Type 0 where
   pub current_words_length : length store.current_words ≡ length store.live
   pub current_dirty_length : length store.current_dirty ≡ length store.live
@@ -46,11 +53,12 @@ pub record IsInOrder (store : Arrays) : Type 0 where
   pub live_words : All IsWord store.live
   pub previous_are_words : All IsWord store.previous_words
   pub current_are_words : All IsWord store.current_words
-  pub current : dirty_words store.current_dirty store.current_words ≡ dirty_words store.current_dirty store.live
+  pub current : dirty_words store.current_dirty store.current_words
+      ≡ dirty_words store.current_dirty store.live
   pub clean : take store.taken store.previous_dirty ≡ replicate store.taken false
 
--- All three arrays are the words. Odd is current, with every entry dirty. Even has no dirty entry. No cell is left to
--- take.
+-- All three arrays are the words. Odd is current, with every entry dirty. Even has no dirty entry.
+-- No cell is left to take.
 abbrev pub built_arrays : List ℕ → Arrays
 built_arrays words = record {
   live = words;

@@ -1,9 +1,12 @@
-ghost use Rattle.std.specs.Prelude.{◌≡◌, ◌<◌, ◌↔◌, refl, [], ◌∷◌, length, All, slice_get, slice_index, slice_set, IfOk, IfErr, IfSome, IfNone, OnSome};
+ghost use Rattle.std.specs.Prelude.{◌≡◌, ◌<◌, ◌↔◌, refl, [], ◌∷◌, length, All, slice_get};
+ghost use Rattle.std.specs.Prelude.{slice_index, slice_set, IfOk, IfErr, IfSome, IfNone, OnSome};
 ghost use Rattle.world_actions.specs.World.{IsWord};
 ghost use Rattle.world_ticks.specs.Cells.{writes_among};
 ghost use Rattle.capture_core.specs.Taken.{IsTakenWord};
 ghost use Rattle.capture_core.specs.Content.{all_touched, content_after, Takes, Marks};
-ghost use Rattle.ping_pong.specs.PingPong.{IsInOrder, odd_words, even_words, previous_entries, content_of, built_arrays, written_arrays, swapped_arrays, taken_arrays};
+ghost use Rattle.ping_pong.specs.PingPong.{IsInOrder, odd_words, even_words, previous_entries};
+ghost use Rattle.ping_pong.specs.PingPong.{content_of, built_arrays, written_arrays};
+ghost use Rattle.ping_pong.specs.PingPong.{swapped_arrays, taken_arrays};
 
 use capture_core::{Capture, Taken, Taker};
 use packed_marks::PackedMarks;
@@ -13,8 +16,8 @@ use std::mem;
 use world_actions::Refusal;
 use world_ticks::Cells;
 
-/// A store of live words and two arrays of entries, odd and even. One array is current and the other is previous. An
-/// entry is a word and a dirty mark.
+/// A store of live words and two arrays of entries, odd and even. One array is current and the
+/// other is previous. An entry is a word and a dirty mark.
 #[derive(Drop)]
 pub struct PingPong {
     live: Vec<u64>,
@@ -38,7 +41,8 @@ impl Model for PingPong {
 }
 
 impl PingPong {
-    /// Builds a store of these words, with no round open. It takes all the memory that it will ever need.
+    /// Builds a store of these words, with no round open. It takes all the memory that
+    /// it will ever need.
     pub fn new(alloc: Global, words: &[u64]) -> Result<Self, Refusal>
         requires { All IsWord words.now }
         ensures ok { IfOk result (λ store. store ≡ built_arrays words.now) }

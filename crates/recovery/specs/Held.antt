@@ -21,7 +21,8 @@ IsBoundedImage (Open tick words) = (tick ≤ TICK_MAX) × IsWorld words
 abbrev pub IsBoundedSegment : Segment → Type 0
 IsBoundedSegment ClosedSegment = Unit {0}
 IsBoundedSegment MalformedSegment = ⊥
-IsBoundedSegment (OpenSegment base ticks) = (length ticks ≤ SEGMENT_TICKS) × (base + length ticks ≤ TICK_MAX)
+IsBoundedSegment (OpenSegment base ticks) =
+    (length ticks ≤ SEGMENT_TICKS) × (base + length ticks ≤ TICK_MAX)
 
 -- the newest image
 abbrev pub newest_in : Found → Newest

@@ -1,5 +1,6 @@
 -- The parts of a start.
-use Rattle.std.specs.Prelude.{◌≡◌, ℕ, List, [], length, get_or, Bool, true, false, not, nat_eq, nat_lt, ◌&&◌, Option, Some, None}
+use Rattle.std.specs.Prelude.{◌≡◌, ℕ, List, [], length, get_or, Bool, true, false, not, nat_eq}
+use Rattle.std.specs.Prelude.{nat_lt, ◌&&◌, Option, Some, None}
 use Rattle.file_format.specs.declared.gate.TheConstants.{OPEN_GATE}
 use Rattle.file_format.specs.declared.slot.Slot.{Slot}
 use Rattle.capture_core.specs.Content.{Content, all_touched, Marks}

@@ -16,7 +16,8 @@ use image_files::{ImageKeeper, Slot, images_stay, is_shut};
 use std::alloc::Global;
 use world_actions::Refusal;
 
-/// The number of records that may wait for the log of a world, in the queue of its keeper and on the way there.
+/// The number of records that may wait for the log of a world, in the queue of its keeper and
+/// on the way there.
 pub const QUEUE_RECORDS: usize = 64;
 
 /// True if a start at this tick has a round. `newest` is the file and the tick of the newest image.
@@ -42,7 +43,8 @@ pub fn store_of<C: Capture>(alloc: Global, words: &[u64], round: bool) -> Result
     Ok(store)
 }
 
-/// Makes the image keeper of a start on files with these bytes, and begins its round if the start has one.
+/// Makes the image keeper of a start on files with these bytes, and begins its round if
+/// the start has one.
 pub fn images_of(
     alloc: Global,
     cells: u32,

@@ -1,7 +1,8 @@
 -- The parts of the files that are taken, judged only by their bytes.
 use Rattle.std.specs.Prelude.{◌≡◌, ◌⊎◌, ℕ, ◌≤◌, Bool, false, nat_eq, List, [], length, take}
 use Rattle.image_files.specs.Image.{Closed, Bad, Open, image_of}
-use Rattle.action_log.specs.Segment.{Tick, Segment, ClosedSegment, MalformedSegment, OpenSegment, IsSegment}
+use Rattle.action_log.specs.Segment.{Tick, Segment, ClosedSegment, MalformedSegment, OpenSegment}
+use Rattle.action_log.specs.Segment.{IsSegment}
 use Rattle.action_log.specs.Extent.{HasNoGroups, IsExtent}
 use Rattle.salvage.specs.declared.image_part.ImagePart.{ImagePart}
 use Rattle.salvage.specs.declared.image_part.ImagePart.TheVariants as images
@@ -48,10 +49,15 @@ pub record IsKept (bytes : List ℕ) (part : LogPart) : Type 0 where
   pub reads : IsSegment (kept_log part bytes) (segment_of part list)
   pub fits : FitsIn part bytes
 
--- A segment that isn't malformed is taken whole. A malformed one is cut after its leading groups: no further whole group
--- follows there. If none leads it, nothing is taken.
+-- A segment that isn't malformed is taken whole. A malformed one is cut after its leading groups:
+-- no further whole group follows there. If none leads it, nothing is taken.
 abbrev pub IsFormed : List ℕ → LogPart → Type 0
 IsFormed bytes logs.Closed = IsSegment bytes ClosedSegment
-IsFormed bytes (logs.Whole base ticks) = (list : List Tick) × IsSegment bytes (OpenSegment base list) × (length list ≡ ticks)
-IsFormed bytes (logs.Cut at base ticks) = IsSegment bytes MalformedSegment × (1 ≤ ticks) × (ended : Bool) × (extent : IsExtent bytes at ticks ended) × (extent.base ≡ base)
-IsFormed bytes logs.Dropped = IsSegment bytes MalformedSegment × (HasNoGroups bytes ⊎ ((at : ℕ) × (ended : Bool) × IsExtent bytes at 0 ended))
+IsFormed bytes (logs.Whole base ticks) =
+    (list : List Tick) × IsSegment bytes (OpenSegment base list) × (length list ≡ ticks)
+IsFormed bytes (logs.Cut at base ticks) =
+    IsSegment bytes MalformedSegment × (1 ≤ ticks) × (ended : Bool)
+    × (extent : IsExtent bytes at ticks ended) × (extent.base ≡ base)
+IsFormed bytes logs.Dropped =
+    IsSegment bytes MalformedSegment
+    × (HasNoGroups bytes ⊎ ((at : ℕ) × (ended : Bool) × IsExtent bytes at 0 ended))

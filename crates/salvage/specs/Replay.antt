@@ -2,7 +2,8 @@
 use Rattle.std.specs.Prelude.{◌≡◌, ◌⊎◌, ℕ, ◌+◌, zero, suc, List, [], ◌∷◌, ◌++◌, length, IsOk, IsErr}
 use Rattle.std.specs.List.{flat_map}
 use Rattle.action_log.specs.declared.format.TheConstants.{FIRST_GROUP}
-use Rattle.action_log.specs.Segment.{Tick, joined, group_bytes, OpenSegment, IsSegment, IsOpenSegment}
+use Rattle.action_log.specs.Segment.{Tick, joined, group_bytes, OpenSegment, IsSegment}
+use Rattle.action_log.specs.Segment.{IsOpenSegment}
 use Rattle.recovery.specs.Recovery.{words_after}
 use Rattle.salvage.specs.declared.log_part.LogPart.{LogPart}
 use Rattle.salvage.specs.declared.log_part.LogPart.TheVariants as logs
@@ -13,8 +14,8 @@ abbrev pub part_before : (base at ticks : ℕ) → LogPart
 part_before base at zero = logs.Dropped
 part_before base at (suc ticks) = logs.Cut at base (suc ticks)
 
--- The groups before the first one with a refused action are taken. The words are those of the world at the segment's
--- base.
+-- The groups before the first one with a refused action are taken. The words are those of the world
+-- at the segment's base.
 pub record IsRefused (base : ℕ) (words bytes : List ℕ) (part : LogPart) : Type 0 where
   pub list : List Tick
   pub segment : IsOpenSegment bytes base list
@@ -24,10 +25,13 @@ pub record IsRefused (base : ℕ) (words bytes : List ℕ) (part : LogPart) : Ty
   pub split : segment.groups ≡ kept ++ group ∷ later
   pub accepted : IsOk (words_after words (joined kept))
   pub refused : IsErr (words_after words (joined (kept ++ group ∷ [])))
-  pub part_is : part ≡ part_before base (FIRST_GROUP + length (flat_map group_bytes kept)) (length (joined kept))
+  pub part_is : part
+      ≡ part_before base (FIRST_GROUP + length (flat_map group_bytes kept)) (length (joined kept))
 
 -- The part stays, except if it begins at the world's tick and an action of it is refused.
 abbrev pub IsReplayed : (tick : ℕ) → (words bytes : List ℕ) → (formed part : LogPart) → Type 0
 IsReplayed tick words bytes formed part =
-    ((part ≡ formed) × ((list : List Tick) → IsSegment (kept_log formed bytes) (OpenSegment tick list) → IsOk (words_after words list)))
+    ((part ≡ formed)
+    × ((list : List Tick) → IsSegment (kept_log formed bytes) (OpenSegment tick list)
+    → IsOk (words_after words list)))
     ⊎ IsRefused tick words (kept_log formed bytes) part

@@ -1,7 +1,8 @@
 //! The place of a tick's group in the bytes of a segment.
 ghost use Rattle.std.specs.Prelude.{◌≡◌, ◌+◌, ◌^◌, ◌<◌, ◌≤◌, ℕ, length, take, drop};
 ghost use Rattle.file_format.specs.Number.{number_of};
-ghost use Rattle.action_log.specs.Segment.{Tick, IsOpenSegment, action_bytes, tick_bytes, group_bytes};
+ghost use Rattle.action_log.specs.Segment.{Tick, IsOpenSegment, action_bytes, tick_bytes};
+ghost use Rattle.action_log.specs.Segment.{group_bytes};
 ghost use Rattle.salvage.specs.Groups.{IsWithin};
 
 use action_log::TickList;
@@ -15,7 +16,8 @@ pub struct Leading {
     pub ticks: usize,
 }
 
-/// Returns the most groups that lead an open segment and have at most so many of its ticks. A further group follows.
+/// Returns the most groups that lead an open segment and have at most so many of its ticks. A
+/// further group follows.
 pub fn groups_within(bytes: &[u8], ticks: &TickList, most: usize) -> Leading
     requires segment { (base : ℕ) × IsOpenSegment bytes.now base ticks.now }
     requires more { most < length ticks.now }

@@ -36,7 +36,8 @@ impl ImagePart {
 /// Judges an image file. It takes memory for the words of an open image, and gives it back.
 pub fn image_part(alloc: Global, bytes: &[u8]) -> Result<ImagePart, Refusal>
     ensures part { IfOk result (λ part. IsImagePart bytes.now part) }
-    ensures memory { IfErr result (λ refusal. (refusal ≡ Refusal.NoMemory) × IsOpenImage (image_of bytes.now)) }
+    ensures memory { IfErr result (λ refusal. (refusal ≡ Refusal.NoMemory)
+        × IsOpenImage (image_of bytes.now)) }
 {
     match read_image(alloc, bytes) {
         Ok(ImageState::Closed) => Ok(ImagePart::Closed),

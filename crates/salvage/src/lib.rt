@@ -1,8 +1,9 @@
 //! What can still be read of a world's files that `recover` refuses.
 //!
-//! An image that is damaged is left out. A damaged segment is cut after the last of its leading groups. The rest is
-//! replayed in the order of recovery. A group with a refused action is cut off, with all groups after it. `recover` then
-//! reads what was kept. A file that is closed, lost or empty counts as closed. Nothing is written.
+//! An image that is damaged is left out. A damaged segment is cut after the last of its leading
+//! groups. The rest is replayed in the order of recovery. A group with a refused action is cut off,
+//! with all groups after it. `recover` then reads what was kept. A file that is closed, lost or
+//! empty counts as closed. Nothing is written.
 #![tactic(auto)]
 
 mod groups;

@@ -48,8 +48,8 @@ impl LogPart {
     }
 }
 
-/// Judges a log file only by its bytes, before anything of it is replayed. It takes memory for the ticks of a whole
-/// segment, and gives it back.
+/// Judges a log file only by its bytes, before anything of it is replayed. It takes memory for the
+/// ticks of a whole segment, and gives it back.
 pub fn formed_part(alloc: Global, bytes: &[u8]) -> Result<LogPart, Refusal>
     ensures part { IfOk result (λ part. IsFormed bytes.now part) }
     ensures kept { IfOk result (λ part. IsKept bytes.now part) }

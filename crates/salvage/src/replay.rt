@@ -1,5 +1,6 @@
 //! Which ticks of a segment are accepted again.
-ghost use Rattle.std.specs.Prelude.{◌≡◌, ◌⊎◌, ◌+◌, ◌<◌, ◌≤◌, ℕ, length, take, IsOk, IsErr, IfOk, IfErr};
+ghost use Rattle.std.specs.Prelude.{◌≡◌, ◌⊎◌, ◌+◌, ◌<◌, ◌≤◌, ℕ, length, take, IsOk, IsErr, IfOk};
+ghost use Rattle.std.specs.Prelude.{IfErr};
 ghost use Rattle.world_actions.specs.World.{IsWorld};
 ghost use Rattle.action_log.specs.Segment.{Tick, OpenSegment, IsSegment};
 ghost use Rattle.recovery.specs.Recovery.{words_after};
@@ -14,8 +15,9 @@ use std::alloc::Global;
 use world_actions::Refusal;
 use world_ticks::{Words, replay};
 
-/// Replays what was kept of a segment on a world, if the segment begins at that world's tick. It cuts off the group of
-/// the first refused action, with all groups after it. It takes memory for the ticks, and gives it back.
+/// Replays what was kept of a segment on a world, if the segment begins at that world's tick. It
+/// cuts off the group of the first refused action, with all groups after it. It takes memory for
+/// the ticks, and gives it back.
 pub fn replayed_part(
     alloc: Global,
     world: Recovered,
@@ -24,7 +26,8 @@ pub fn replayed_part(
 ) -> Result<LogPart, Refusal>
     requires world { IsWorld world.words.items }
     requires kept { IsKept bytes.now formed }
-    ensures part { IfOk result (λ part. IsReplayed world.tick world.words.items bytes.now formed part) }
+    ensures part { IfOk result (λ part.
+        IsReplayed world.tick world.words.items bytes.now formed part) }
     ensures kept { IfOk result (λ part. IsKept bytes.now part) }
     ensures memory { IfErr result (λ refusal. refusal ≡ Refusal.NoMemory) }
 {
@@ -63,12 +66,13 @@ fn accepted_part(
     part_before(base, groups_within(bytes, ticks, accepted))
 }
 
-// Replays ticks up to the first that has a refused action, and returns the number of ticks before it. That tick may be
-// replayed in part.
+// Replays ticks up to the first that has a refused action, and returns the number of ticks before
+// it. That tick may be replayed in part.
 fn accepted_ticks(words: &mut Words, ticks: &TickList) -> usize
     ensures within { result ≤ length ticks.now }
     ensures accepted { IsOk (words_after words.old (take result ticks.now)) }
-    ensures refused { result < length ticks.now → IsErr (words_after words.old (take (result + 1) ticks.now)) }
+    ensures refused { result < length ticks.now
+        → IsErr (words_after words.old (take (result + 1) ticks.now)) }
 {
     for i in 0..ticks.len() {
         let Some(tick) = ticks.get(i) else {

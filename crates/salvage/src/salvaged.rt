@@ -1,4 +1,5 @@
-ghost use Rattle.std.specs.Prelude.{◌≡◌, ◌≢◌, ◌⊎◌, ◌≤◌, ℕ, List, [], length, false, IsTrue, IfOk, IfErr, Ok, Err};
+ghost use Rattle.std.specs.Prelude.{◌≡◌, ◌≢◌, ◌⊎◌, ◌≤◌, ℕ, List, [], length, false, IsTrue, IfOk};
+ghost use Rattle.std.specs.Prelude.{IfErr, Ok, Err};
 ghost use Rattle.world_actions.specs.World.{IsWorld};
 ghost use Rattle.world_ticks.specs.declared.tick.TheConstants.{TICK_MAX};
 ghost use Rattle.image_files.specs.Image.{Bad, image_of};
@@ -25,10 +26,11 @@ pub struct Salvaged {
     pub log_b: LogPart,
 }
 
-/// Recovers the world in what can be read of image.a, image.b, log.a and log.b. A damaged image is left out. A segment is
-/// cut after the last of its leading groups that is whole and accepted. Files that `recover` accepts are taken whole. It
-/// refuses with `NoImage` exactly if no image is open and whole, else only with `NoMemory`. It holds the memory of one
-/// recovery at a time, and reads each file a few times.
+/// Recovers the world in what can be read of image.a, image.b, log.a and log.b. A damaged image is
+/// left out. A segment is cut after the last of its leading groups that is whole and accepted.
+/// Files that `recover` accepts are taken whole. It refuses with `NoImage` exactly if no image is
+/// open and whole, else only with `NoMemory`. It holds the memory of one recovery at a time, and
+/// reads each file a few times.
 pub fn salvage(
     alloc: Global,
     image_a: &[u8],
@@ -46,7 +48,8 @@ pub fn salvage(
         × IsAllTaken s.image_a s.image_b s.log_a s.log_b) }
     ensures world { IfOk result (λ s. IsWorld s.found.words.items) }
     ensures numbers { IfOk result (λ s. (s.found.from ≤ s.found.tick) × (s.found.tick ≤ TICK_MAX)) }
-    ensures refused { IfErr result (λ refusal. (refusal ≡ Refusal.NoMemory) ⊎ ((refusal ≡ Refusal.NoImage)
+    ensures refused { IfErr result (λ refusal. (refusal ≡ Refusal.NoMemory)
+        ⊎ ((refusal ≡ Refusal.NoImage)
         × ¬ IsOpenImage (image_of image_a.now) × ¬ IsOpenImage (image_of image_b.now))) }
 {
     let image_part_a = image_part(alloc, image_a)?;
@@ -101,11 +104,15 @@ fn replayed_parts(
     requires image_b { image_of images.b.now ≢ Bad }
     requires kept_a { IsKept log_a.bytes.now log_a.part }
     requires kept_b { IsKept log_b.bytes.now log_b.part }
-    ensures replayed { IfOk result (λ parts. AreReplayedInOrder images.entry.a.now images.entry.b.now log_a.entry.bytes.now
+    ensures replayed { IfOk result (λ parts.
+        AreReplayedInOrder images.entry.a.now images.entry.b.now log_a.entry.bytes.now
         log_b.entry.bytes.now log_a.entry.part log_b.entry.part parts.0 parts.1) }
-    ensures kept { IfOk result (λ parts. IsKept log_a.entry.bytes.now parts.0 × IsKept log_b.entry.bytes.now parts.1) }
-    ensures refused { IfErr result (λ refusal. (refusal ≡ Refusal.NoMemory) ⊎ ((refusal ≡ Refusal.NoImage)
-        × ¬ IsOpenImage (image_of images.entry.a.now) × ¬ IsOpenImage (image_of images.entry.b.now))) }
+    ensures kept { IfOk result (λ parts. IsKept log_a.entry.bytes.now parts.0
+        × IsKept log_b.entry.bytes.now parts.1) }
+    ensures refused { IfErr result (λ refusal. (refusal ≡ Refusal.NoMemory)
+        ⊎ ((refusal ≡ Refusal.NoImage)
+        × ¬ IsOpenImage (image_of images.entry.a.now)
+        × ¬ IsOpenImage (image_of images.entry.b.now))) }
 {
     let newest = recover(alloc, images.a, images.b, &[], &[])?;
     if log_a.part.begins_at(newest.tick) {
@@ -115,7 +122,8 @@ fn replayed_parts(
     Ok((part_a, part_b))
 }
 
-// Replays the first segment on a world, and the second one on the world that the first one leads to.
+// Replays the first segment on a world, and the second one on the world that the
+// first one leads to.
 fn replayed_along(
     alloc: Global,
     images: Images<'_>,
@@ -127,9 +135,11 @@ fn replayed_along(
     requires world { IsWorld newest.words.items }
     requires first { IsKept first.bytes.now first.part }
     requires second { IsKept second.bytes.now second.part }
-    ensures replayed { IfOk result (λ parts. AreReplayed newest.tick newest.words.items first.entry.bytes.now
+    ensures replayed { IfOk result (λ parts.
+        AreReplayed newest.tick newest.words.items first.entry.bytes.now
         second.entry.bytes.now first.entry.part second.entry.part parts.0 parts.1) }
-    ensures kept { IfOk result (λ parts. IsKept first.entry.bytes.now parts.0 × IsKept second.entry.bytes.now parts.1) }
+    ensures kept { IfOk result (λ parts. IsKept first.entry.bytes.now parts.0
+        × IsKept second.entry.bytes.now parts.1) }
     ensures memory { IfErr result (λ refusal. refusal ≡ Refusal.NoMemory) }
 {
     let part = replayed_part(alloc, newest, first.bytes, first.part)?;

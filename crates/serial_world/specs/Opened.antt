@@ -12,49 +12,64 @@ use Rattle.world_start.specs.Fresh.{FilesAreClosed, AreFreshOrSound, AreMade}
 use Rattle.serial_world.specs.declared.state.SerialState.{SerialState}
 use Rattle.serial_world.specs.Runs.{words_of, Serves}
 
--- The recovered world is served, and all its ticks are acknowledged again. If the files were synced and sound for some
--- ticks, the recovered ones among them are served, and no fewer than were acknowledged.
-pub record IsOpened {C D : Type 0} (content : C → Content) (file : D → List ℕ) (leaves : D → List ℕ → Type 0) (honest : Bool) (files : FourFiles D) (s : SerialState C D) : Type 0 where
+-- The recovered world is served, and all its ticks are acknowledged again. If the files were
+-- synced and sound for some ticks, the recovered ones among them are served, and no fewer than
+-- were acknowledged.
+pub record IsOpened {C D : Type 0} (content : C → Content) (file : D → List ℕ)
+    (leaves : D → List ℕ → Type 0) (honest : Bool) (files : FourFiles D)
+    (s : SerialState C D) : Type 0 where
   pub recovery : Recovery
   pub recovers : RecoversFiles file files recovery
   pub recovered : s.recovered ≡ (recovery.tick, recovery.from)
   pub words : words_of content file leaves honest s ≡ recovery.words
   pub ended : s.engine.ended ≡ recovery.tick
   pub acked : s.acked ≡ recovery.tick
-  pub serves : (first : List ℕ) (ticks : List (List Action)) (acknowledged : ℕ) → AreSynced file leaves files → AreSound file leaves files first ticks acknowledged
+  pub serves : (first : List ℕ) (ticks : List (List Action)) (acknowledged : ℕ)
+      → AreSynced file leaves files → AreSound file leaves files first ticks acknowledged
       → Serves content file leaves honest s first (take recovery.tick ticks)
 
 module _ {D : Type 0} (file : D → List ℕ) (leaves : D → List ℕ → Type 0) where
-  -- No world is opened. The files were only read, except if a device failed, and sound files stay sound.
-  pub record IsNotOpened (files : FourFiles D) (refusal : Refusal) (left : FourFiles D) : Type 0 where
+  -- No world is opened. The files were only read, except if a device failed, and sound
+  -- files stay sound.
+  pub record IsNotOpened (files : FourFiles D) (refusal : Refusal)
+      (left : FourFiles D) : Type 0 where
     pub kept : refusal ≢ Device → EachFile files left (KeepsFile file leaves)
-    pub sound : (first : List ℕ) (ticks : List (List Action)) (acknowledged : ℕ) → AreSynced file leaves files → AreSound file leaves files first ticks acknowledged
+    pub sound : (first : List ℕ) (ticks : List (List Action)) (acknowledged : ℕ)
+        → AreSynced file leaves files → AreSound file leaves files first ticks acknowledged
         → AreSound file leaves left first ticks acknowledged
 
 -- ---- a new world
 
 module _ {D : Type 0} (file : D → List ℕ) (leaves : D → List ℕ → Type 0) where
-  -- The reasons why no new world is served: the files hold a world, memory ran out, a device failed, or recovery refuses the
-  -- bytes that were read of the new files. On files that keep to the disk model and were synced, recovery refuses none.
+  -- The reasons why no new world is served: the files hold a world, memory ran out, a device
+  -- failed, or recovery refuses the bytes that were read of the new files. On files that keep to
+  -- the disk model and were synced, recovery refuses none.
   abbrev pub IsRefusedNew : (honest : Bool) → FourFiles D → Refusal → Type 0
   IsRefusedNew honest files refusal =
       (refusal ≡ NotEmpty) ⊎ ((refusal ≡ NoMemory) ⊎ ((refusal ≡ Device)
-      ⊎ ((image_a image_b log_a log_b : List ℕ) × Recovers image_a image_b log_a log_b (Err refusal) × (IsTrue honest → AreSynced file leaves files → ⊥))))
+      ⊎ ((image_a image_b log_a log_b : List ℕ) × Recovers image_a image_b log_a log_b (Err refusal)
+      × (IsTrue honest → AreSynced file leaves files → ⊥))))
 
   -- the files were only read, or they are those of the new world and were only read since
   abbrev pub AreKeptOrMade : FourFiles D → (cells : ℕ) → (left : FourFiles D) → Type 0
   AreKeptOrMade files cells left =
-      EachFile files left (KeepsFile file leaves) ⊎ ((made : FourFiles D) × AreMade file leaves files cells made × EachFile made left (KeepsFile file leaves))
+      EachFile files left (KeepsFile file leaves)
+      ⊎ ((made : FourFiles D) × AreMade file leaves files cells made
+      × EachFile made left (KeepsFile file leaves))
 
-  -- No new world is served. `NotEmpty` comes only if one of the files isn't closed. If the files were synced and closed,
-  -- whatever a crash leaves of them is no world yet, or one of zeros at tick 0.
-  pub record IsNotCreated (files : FourFiles D) (cells : ℕ) (refusal : Refusal) (left : FourFiles D) : Type 0 where
+  -- No new world is served. `NotEmpty` comes only if one of the files isn't closed. If the
+  -- files were synced and closed, whatever a crash leaves of them is no world yet, or one of
+  -- zeros at tick 0.
+  pub record IsNotCreated (files : FourFiles D) (cells : ℕ) (refusal : Refusal)
+      (left : FourFiles D) : Type 0 where
     pub not_empty : refusal ≡ NotEmpty → ¬ FilesAreClosed file files
     pub kept : refusal ≢ Device → AreKeptOrMade files cells left
-    pub safe : AreSynced file leaves files → FilesAreClosed file files → AreFreshOrSound file leaves left (replicate cells 0)
+    pub safe : AreSynced file leaves files → FilesAreClosed file files
+        → AreFreshOrSound file leaves left (replicate cells 0)
 
 -- a world of zeros at tick 0 is served, with no tick ended
-pub record IsServedFresh {C D : Type 0} (content : C → Content) (file : D → List ℕ) (leaves : D → List ℕ → Type 0) (honest : Bool) (cells : ℕ) (s : SerialState C D) : Type 0 where
+pub record IsServedFresh {C D : Type 0} (content : C → Content) (file : D → List ℕ)
+    (leaves : D → List ℕ → Type 0) (honest : Bool) (cells : ℕ) (s : SerialState C D) : Type 0 where
   pub cells_are : s.engine.images.cells ≡ cells
   pub words : words_of content file leaves honest s ≡ replicate cells 0
   pub ended : s.engine.ended ≡ 0

@@ -18,7 +18,12 @@ use Rattle.world_start.specs.Opening.{AreSynced, AreSound, MatchesRecovery}
 module _ {C : Type 0} (content : C → Content) where
   -- a batch was done on the store, and its tick is queued
   pub record Plays (old new : Engine C) (requests : List Request) : Type 0 where
-    pub is : new ≡ record old { store = new.store; queue = new.queue; ended = old.ended + 1; since = old.since + 1 }
+    pub is : new ≡ record old {
+      store = new.store;
+      queue = new.queue;
+      ended = old.ended + 1;
+      since = old.since + 1;
+    }
     pub tick : Actions
     pub list : tick.list ≡ accepted_of requests (content old.store).live
     pub queue : new.queue.items ≡ old.queue.items ++ records.Tick tick ∷ []
@@ -26,21 +31,30 @@ module _ {C : Type 0} (content : C → Content) where
     pub live : (content new.store).live ≡ words_after requests (content old.store).live
     pub cells : length (content new.store).live ≡ length (content old.store).live
     pub left : (content new.store).left ≡ (content old.store).left
-    pub covers : (image : List ℕ) → Covers image (content old.store) → Covers image (content new.store)
+    pub covers : (image : List ℕ) → Covers image (content old.store)
+        → Covers image (content new.store)
 
   -- the store was marked, the round of the ended ticks began, and their switch is queued
   pub record BeginsRound (old new : Engine C) : Type 0 where
-    pub is : new ≡ record old { store = new.store; images = begun_keeper old.ended old.images; queue = new.queue; since = 0 }
+    pub is : new ≡ record old {
+      store = new.store;
+      images = begun_keeper old.ended old.images;
+      queue = new.queue;
+      since = 0;
+    }
     pub marks : Marks (content old.store) (content new.store)
     pub queue : new.queue.items ≡ old.queue.items ++ records.Switch old.ended ∷ []
     pub ring : new.queue.capacity ≡ old.queue.capacity
 
 -- ---- opening
 
-module _ {C D : Type 0} (content : C → Content) (file : D → List ℕ) (leaves : D → List ℕ → Type 0) where
+module _ {C D : Type 0} (content : C → Content) (file : D → List ℕ)
+    (leaves : D → List ℕ → Type 0) where
   -- The start of the recovered world has ended: so many ticks are acknowledged again.
-  pub record IsStarted (files : FourFiles D) (engine : Engine C) (from : ℕ) (left : FourFiles D) : Type 0 where
+  pub record IsStarted (files : FourFiles D) (engine : Engine C) (from : ℕ)
+      (left : FourFiles D) : Type 0 where
     pub matches : MatchesRecovery content file files engine from
     pub open matches use *
-    pub follows : (first : List ℕ) (ticks : List (List Action)) (acknowledged : ℕ) → AreSynced file leaves files → AreSound file leaves files first ticks acknowledged
+    pub follows : (first : List ℕ) (ticks : List (List Action)) (acknowledged : ℕ)
+        → AreSynced file leaves files → AreSound file leaves files first ticks acknowledged
         → Follows content file leaves engine left first (take recovery.tick ticks) recovery.tick

@@ -13,7 +13,8 @@ pub trait Answers {
     /// These are the answers to a batch in a world of these words, as the tick of this number.
     ghost reports: { Self → List Request → List ℕ → ℕ → Type 0 };
 
-    /// Runs a batch on a store as the tick of this number, into an empty tick. All memory is taken first.
+    /// Runs a batch on a store as the tick of this number, into an empty tick. All
+    /// memory is taken first.
     fn answer<C: Cells>(
         &mut self,
         c: &mut C,

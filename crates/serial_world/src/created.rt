@@ -11,9 +11,9 @@ use std::alloc::Global;
 use world_actions::Refusal;
 use world_start::fresh_files;
 
-/// Makes the files of a world of zeros at tick 0, and opens that world. No restart between the two is needed: if nothing of
-/// the files was unsynced, the new world is served. It refuses with `NotEmpty` if one of the files isn't closed. If it
-/// refuses, it gives the files back.
+/// Makes the files of a world of zeros at tick 0, and opens that world. No restart between the two
+/// is needed: if nothing of the files was unsynced, the new world is served. It refuses with
+/// `NotEmpty` if one of the files isn't closed. If it refuses, it gives the files back.
 pub fn create_and_open<C: Capture, D: Disk>(
     alloc: Global,
     cells: u32,
@@ -24,7 +24,8 @@ pub fn create_and_open<C: Capture, D: Disk>(
     ensures served { IsTrue D.honest → AreSynced D.content D.may_leave files
         → IfOk result (IsServedFresh C.content D.content D.may_leave D.honest cells) }
     ensures every { IfOk result (λ served. served.every ≡ every) }
-    ensures refused { IfErr result (λ refused. IsRefusedNew D.content D.may_leave D.honest files refused.1) }
+    ensures refused { IfErr result (λ refused.
+        IsRefusedNew D.content D.may_leave D.honest files refused.1) }
     ensures left { IsTrue D.honest → IfErr result (λ refused.
         IsNotCreated D.content D.may_leave files cells refused.1 refused.0) }
     ensures device { IfErr result (λ refused. HasFaulted D.faults files refused.0 refused.1) }

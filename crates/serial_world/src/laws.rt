@@ -8,9 +8,9 @@ use capture_core::Capture;
 use disk_model::Disk;
 use world_start::followed_files_are_sound;
 
-/// Law: the files of a served world are sound for its ticks and the acknowledged count. Whatever a crash leaves of them,
-/// recovery gives the world after the first n ticks, for some n not below that count. Each open image is the world after
-/// its tick.
+/// Law: the files of a served world are sound for its ticks and the acknowledged count. Whatever a
+/// crash leaves of them, recovery gives the world after the first n ticks, for some n not below
+/// that count. Each open image is the world after its tick.
 pub fn served_worlds_are_safe<C: Capture, D: Disk>()
     ensures { IsTrue D.honest → (s : State C D) (first : List ℕ) (ticks : List (List Action))
         → Serves C.content D.content D.may_leave D.honest s first ticks

@@ -24,8 +24,10 @@ pub fn checkpoint<C: Capture, D: Disk>(engine: &mut Engine<C>, files: &mut FourF
     ensures cells { engine.new.images.cells ≡ engine.old.images.cells }
     ensures live { (C.content engine.new.store).live ≡ (C.content engine.old.store).live }
     ensures ended { (engine.new.ended ≡ engine.old.ended) × (engine.new.since ≡ 0) }
-    ensures follows { IsTrue D.honest → StillFollows C.content D.content D.may_leave engine.old files.old engine.new files.new }
-    ensures image { IsTrue D.honest → (first : List ℕ) (ticks : List (List Action)) (acknowledged : ℕ)
+    ensures follows { IsTrue D.honest
+        → StillFollows C.content D.content D.may_leave engine.old files.old engine.new files.new }
+    ensures image { IsTrue D.honest
+        → (first : List ℕ) (ticks : List (List Action)) (acknowledged : ℕ)
         → Follows C.content D.content D.may_leave engine.old files.old first ticks acknowledged
         → (engine.new.images.phase ≡ Down) ⊎ HasImageOf D.may_leave files.new engine.new.ended }
 {

@@ -11,13 +11,14 @@ use std::alloc::Global;
 use world_actions::Refusal;
 use world_start::{Engine, followed_files_are_sound, recover_world};
 
-/// Recovers the world in the files, and runs its start to the end. Returns its engine, and the tick of the image that it was
-/// built from.
+/// Recovers the world in the files, and runs its start to the end. Returns its engine, and the tick
+/// of the image that it was built from.
 pub fn open_engine<C: Capture, D: Disk>(
     alloc: Global,
     files: &mut FourFiles<D>,
 ) -> Result<(Engine<C>, u64), Refusal>
-    ensures rest { IfOk result (λ opened. IsAtRest C.content D.content D.honest opened.0 files.new) }
+    ensures rest { IfOk result (λ opened.
+        IsAtRest C.content D.content D.honest opened.0 files.new) }
     ensures up { IfOk result (λ opened. opened.0.log.down ≡ false) }
     ensures begun { IfOk result (λ opened. (opened.0.since ≡ 0) × (opened.0.images.phase ≡ Idle)) }
     ensures recovered { IfOk result (λ opened.

@@ -30,7 +30,8 @@ pub struct SerialState<C: Capture, D: Disk> {
 }
 
 impl<C: Capture, D: Disk> SerialState<C, D> {
-    /// Plays a batch as one tick, has it logged, and makes a checkpoint if one is due. The answers are put into `answers`.
+    /// Plays a batch as one tick, has it logged, and makes a checkpoint if one is due. The answers
+    /// are put into `answers`.
     pub fn batch<A: Answers>(&mut self, b: &Batch, answers: &mut A) -> Result<(), Refusal>
         requires { IsAtRest C.content D.content D.honest self.old.engine self.old.files }
         ensures rest { IsAtRest C.content D.content D.honest self.new.engine self.new.files }
@@ -39,7 +40,8 @@ impl<C: Capture, D: Disk> SerialState<C, D> {
         ensures answers { OnOk result (A.reports answers.new
             b.now.list (C.content self.old.engine.store).live (self.old.engine.ended + 1)) }
         ensures refused { IfErr result (λ refusal.
-            IsRefusedBatch C.content D.content D.may_leave D.honest self.old b.now.list refusal self.new) }
+            IsRefusedBatch C.content D.content D.may_leave D.honest self.old
+            b.now.list refusal self.new) }
     {
         worlds_go_on();
         log_outcomes::<D>();
@@ -58,7 +60,8 @@ impl<C: Capture, D: Disk> SerialState<C, D> {
         Ok(())
     }
 
-    // Makes a checkpoint, if `every` ticks ended since the last mark or start and images can be written.
+    // Makes a checkpoint, if `every` ticks ended since the last mark or start and
+    // images can be written.
     fn checkpoint_if_due(&mut self)
         requires rest { IsAtRest C.content D.content D.honest self.old.engine self.old.files }
         requires up { self.old.engine.log.down ≡ false }
@@ -68,15 +71,18 @@ impl<C: Capture, D: Disk> SerialState<C, D> {
         ensures since { (self.new.engine.since ≡ self.old.engine.since)
             ⊎ ((self.new.engine.since ≡ 0) × (self.old.every ≤ self.old.engine.since)) }
         ensures cells { self.new.engine.images.cells ≡ self.old.engine.images.cells }
-        ensures live { (C.content self.new.engine.store).live ≡ (C.content self.old.engine.store).live }
-        ensures same { self.new ≡ record self.old { engine = self.new.engine; files = self.new.files } }
+        ensures live { (C.content self.new.engine.store).live
+            ≡ (C.content self.old.engine.store).live }
+        ensures same { self.new
+            ≡ record self.old { engine = self.new.engine; files = self.new.files } }
         ensures serves { IsTrue D.honest → (first : List ℕ) (ticks : List (List Action))
             → Serves C.content D.content D.may_leave D.honest self.old first ticks
             → Serves C.content D.content D.may_leave D.honest self.new first ticks }
         ensures image { IsTrue D.honest → (first : List ℕ) (ticks : List (List Action))
             → Serves C.content D.content D.may_leave D.honest self.old first ticks
             → self.old.every ≤ self.old.engine.since
-            → (self.new.engine.images.phase ≡ Down) ⊎ HasImageOf D.may_leave self.new.files self.new.engine.ended }
+            → (self.new.engine.images.phase ≡ Down)
+            ⊎ HasImageOf D.may_leave self.new.files self.new.engine.ended }
     {
         if self.engine.since >= u64::from(self.every) && !self.engine.images.has_open_round() {
             checkpoint(&mut self.engine, &mut self.files);

@@ -21,7 +21,8 @@ pub fn batch_refusal<C: Capture>(engine: &Engine<C>) -> Option<Refusal>
     tick_refusal(engine.log.is_down(), engine.ended, engine.since)
 }
 
-/// Plays a batch on the store, queues its tick, and puts its answers into `answers`. All memory is taken first.
+/// Plays a batch on the store, queues its tick, and puts its answers into `answers`. All
+/// memory is taken first.
 pub fn play<C: Capture, A: Answers>(
     engine: &mut Engine<C>,
     b: &Batch,

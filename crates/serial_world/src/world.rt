@@ -1,4 +1,5 @@
-ghost use Rattle.std.specs.Prelude.{◌≡◌, ◌≤◌, ◌<◌, [], List, length, slice_index, false, IsTrue, IfOk, IfErr, OnOk, OnErr, ℕ};
+ghost use Rattle.std.specs.Prelude.{◌≡◌, ◌≤◌, ◌<◌, [], List, length, slice_index, false, IsTrue};
+ghost use Rattle.std.specs.Prelude.{IfOk, IfErr, OnOk, OnErr, ℕ};
 ghost use Rattle.world_actions.specs.declared.action.Action.{Action};
 ghost use Rattle.batches.specs.Answer.{answers_of};
 ghost use Rattle.serial_world.specs.Runs.{Runs, Serves, Acknowledged, IsRefusedBatch, IsSameWorld};
@@ -35,12 +36,13 @@ impl<C: Capture, D: Disk> Model for SerialWorld<C, D> {
 
     ghost view = { λ world. world.state };
 
-    ghost invariant = { λ world. IsAtRest C.content D.content D.honest world.state.engine world.state.files };
+    ghost invariant = { λ world.
+        IsAtRest C.content D.content D.honest world.state.engine world.state.files };
 }
 
 impl<C: Capture, D: Disk> SerialWorld<C, D> {
-    /// Opens the world in the files: recovers it, and runs its start to the end. A checkpoint is made after every `every`
-    /// ticks, 1 to 65,536. If it is refused, it gives the files back.
+    /// Opens the world in the files: recovers it, and runs its start to the end. A checkpoint is
+    /// made after every `every` ticks, 1 to 65,536. If it is refused, it gives the files back.
     pub fn open(
         alloc: Global,
         files: FourFiles<D>,
@@ -51,7 +53,8 @@ impl<C: Capture, D: Disk> SerialWorld<C, D> {
         ensures recovered { IfOk result (λ served. IsRecovered C.content D.content D.honest files
             served.engine served.recovered.0 served.recovered.1) }
         ensures up { IfOk result (λ served. served.engine.log.down ≡ false) }
-        ensures begun { IfOk result (λ served. (served.engine.since ≡ 0) × (served.engine.images.phase ≡ Idle)) }
+        ensures begun { IfOk result (λ served. (served.engine.since ≡ 0)
+            × (served.engine.images.phase ≡ Idle)) }
         ensures every { IfOk result (λ served. served.every ≡ every) }
         ensures acked { IfOk result (λ served. served.acked ≡ served.engine.ended) }
         ensures refused { IfErr result (λ refused. IsRefused D.content D.honest files refused.1) }
@@ -97,11 +100,12 @@ impl<C: Capture, D: Disk> SerialWorld<C, D> {
         self.state.engine.store.len()
     }
 
-    /// The word of a cell, between two batches. It makes no tick and no call of a device. After `LogDown` the word may be that
-    /// of a tick that isn't durable.
+    /// The word of a cell, between two batches. It makes no tick and no call of a device. After
+    /// `LogDown` the word may be that of a tick that isn't durable.
     pub fn read(&mut self, cell: u32) -> Result<u64, Refusal>
         ensures inside { IfOk result (λ _. cell < length (C.content self.old.engine.store).live) }
-        ensures word { IfOk result (λ word. word ≡ slice_index (C.content self.old.engine.store).live cell) }
+        ensures word { IfOk result (λ word. word
+            ≡ slice_index (C.content self.old.engine.store).live cell) }
         ensures outside { IfErr result (λ refusal. (refusal ≡ Refusal.BadCell)
             × (length (C.content self.old.engine.store).live ≤ cell)) }
         ensures same { IsSameWorld C.content D.content D.may_leave D.honest self.old self.new }
@@ -109,8 +113,9 @@ impl<C: Capture, D: Disk> SerialWorld<C, D> {
         read_word(&mut self.state.engine.store, cell)
     }
 
-    /// Plays a batch as one tick. Returns the number of the tick once it is acknowledged. The answers, one to each request,
-    /// replace the content of `answers`. If the batch is refused, there are none.
+    /// Plays a batch as one tick. Returns the number of the tick once it is acknowledged. The
+    /// answers, one to each request, replace the content of `answers`. If the batch is
+    /// refused, there are none.
     pub fn play(&mut self, b: &Batch, answers: &mut Vec<Answer>) -> Result<u64, Refusal>
         ensures acknowledged { IfOk result (λ _.
             Acknowledged C.content D.content D.may_leave D.honest self.old b.now.list self.new) }
@@ -118,7 +123,8 @@ impl<C: Capture, D: Disk> SerialWorld<C, D> {
             ≡ answers_of b.now.list (C.content self.old.engine.store).live) }
         ensures tick { IfOk result (λ tick. tick ≡ self.new.acked) }
         ensures refused { IfErr result (λ refusal.
-            IsRefusedBatch C.content D.content D.may_leave D.honest self.old b.now.list refusal self.new) }
+            IsRefusedBatch C.content D.content D.may_leave D.honest self.old
+            b.now.list refusal self.new) }
         ensures none { OnErr result (answers.new.items ≡ []) }
     {
         match self.state.batch(b, answers) {
@@ -132,18 +138,23 @@ impl<C: Capture, D: Disk> SerialWorld<C, D> {
 
     /// Takes the world apart. If memory runs out, it gives the files back with `NoMemory`.
     pub fn into_parts(self) -> Result<Parts<D>, (FourFiles<D>, Refusal)>
-        ensures words { IfOk result (λ parts. parts.words.items ≡ (C.content self.engine.store).live) }
+        ensures words { IfOk result (λ parts. parts.words.items
+            ≡ (C.content self.engine.store).live) }
         ensures images { IfOk result (λ parts. parts.images ≡ self.engine.images) }
         ensures log { IfOk result (λ parts. parts.log ≡ self.engine.log) }
         ensures files { IfOk result (λ parts. parts.files ≡ self.files) }
-        ensures ticks { IfOk result (λ parts. (parts.ended ≡ self.engine.ended) × (parts.since ≡ self.engine.since)) }
-        ensures none_queued { IfOk result (λ parts. parts.log.down ≡ false → self.engine.queue.items ≡ []) }
+        ensures ticks { IfOk result (λ parts. (parts.ended ≡ self.engine.ended)
+            × (parts.since ≡ self.engine.since)) }
+        ensures none_queued { IfOk result (λ parts. parts.log.down ≡ false
+            → self.engine.queue.items ≡ []) }
         ensures rest { IfOk result (AreAtRest D.content D.honest) }
-        ensures settled { IfOk result (λ parts. parts.log.down ≡ false → parts.images.phase ≡ Idle → parts.since ≡ 0
+        ensures settled { IfOk result (λ parts. parts.log.down ≡ false
+            → parts.images.phase ≡ Idle → parts.since ≡ 0
             → (first : List ℕ) (ticks : List (List Action))
             → Serves C.content D.content D.may_leave D.honest self first ticks
             → AreSettled D.content D.may_leave parts first ticks) }
-        ensures refused { IfErr result (λ refused. (refused.0 ≡ self.files) × (refused.1 ≡ Refusal.NoMemory)) }
+        ensures refused { IfErr result (λ refused. (refused.0 ≡ self.files)
+            × (refused.1 ≡ Refusal.NoMemory)) }
     {
         let SerialWorld { state } = self;
         let SerialState {
@@ -162,7 +173,8 @@ impl<C: Capture, D: Disk> SerialWorld<C, D> {
     /// Gives the files back. Nothing of them is unsynced, unless a keeper is down.
     pub fn into_files(self) -> FourFiles<D>
         ensures files { result ≡ self.files }
-        ensures synced { IsTrue D.honest → self.engine.log.down ≡ false → self.engine.images.phase ≡ Idle
+        ensures synced { IsTrue D.honest → self.engine.log.down ≡ false
+            → self.engine.images.phase ≡ Idle
             → (first : List ℕ) (ticks : List (List Action))
             → Serves C.content D.content D.may_leave D.honest self first ticks
             → AreSynced D.content D.may_leave result }

@@ -14,7 +14,8 @@ NoneTooLong (batch ∷ batches) = (is_too_long batch ≡ false) × NoneTooLong b
 
 module _ {S : Type 0} (runs : S → List Request → Result (List ℕ) Refusal → S → Type 0) where
   -- the whole batches of these bytes are answered, and the rest is read
-  pub record Stands (first : S) (read : List ℕ) (reading : Reading) (now : S) (written : List ℕ) : Type 0 where
+  pub record Stands (first : S) (read : List ℕ) (reading : Reading) (now : S)
+      (written : List ℕ) : Type 0 where
     pub before : List ℕ
     pub begun : List ℕ
     pub split : read ≡ before ++ begun
@@ -27,13 +28,19 @@ module _ {S : Type 0} (runs : S → List Request → Result (List ℕ) Refusal �
     pub reads : IsBegun begun reading
 
   -- the bytes lead from one state to another and write this, whatever came before
-  pub record Goes (now : S) (old : Reading) (bytes : List ℕ) (new : Reading) (next : S) (written : List ℕ) : Type 0 where
-    pub on : (first : S) (read prior : List ℕ) → Stands first read old now prior → Stands first (read ++ bytes) new next (prior ++ written)
+  pub record Goes (now : S) (old : Reading) (bytes : List ℕ) (new : Reading) (next : S)
+      (written : List ℕ) : Type 0 where
+    pub on : (first : S) (read prior : List ℕ) → Stands first read old now prior
+        → Stands first (read ++ bytes) new next (prior ++ written)
 
   -- a batch among the bytes is too long
-  pub record EndsEarly (now : S) (old : Reading) (bytes : List ℕ) (last : S) (written : List ℕ) : Type 0 where
-    pub on : (first : S) (read prior : List ℕ) → Stands first read old now prior → IsSession runs first (read ++ bytes) (prior ++ written) last true
+  pub record EndsEarly (now : S) (old : Reading) (bytes : List ℕ) (last : S)
+      (written : List ℕ) : Type 0 where
+    pub on : (first : S) (read prior : List ℕ) → Stands first read old now prior
+        → IsSession runs first (read ++ bytes) (prior ++ written) last true
 
   -- a fault came among the bytes, after this was written
-  pub record BreaksOff (now : S) (old : Reading) (bytes : List ℕ) (last : S) (written : List ℕ) : Type 0 where
-    pub on : (first : S) (read prior : List ℕ) → Stands first read old now prior → IsCutOff runs first (read ++ bytes) (prior ++ written) last
+  pub record BreaksOff (now : S) (old : Reading) (bytes : List ℕ) (last : S)
+      (written : List ℕ) : Type 0 where
+    pub on : (first : S) (read prior : List ℕ) → Stands first read old now prior
+        → IsCutOff runs first (read ++ bytes) (prior ++ written) last

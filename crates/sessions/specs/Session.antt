@@ -1,5 +1,6 @@
 -- The text of a client's session over a world that answers batches by its own relation.
-use Rattle.std.specs.Prelude.{◌≡◌, ℕ, Bool, true, false, List, [], ◌∷◌, ◌++◌, length, nat_lt, if◌then◌else◌, Option, Result, Ok, Err}
+use Rattle.std.specs.Prelude.{◌≡◌, ℕ, Bool, true, false, List, [], ◌∷◌, ◌++◌, length, nat_lt}
+use Rattle.std.specs.Prelude.{if◌then◌else◌, Option, Result, Ok, Err}
 use Rattle.line_grammar.specs.declared.command.Command.{Command}
 use Rattle.world_actions.specs.declared.refusal.Refusal.{Refusal}
 use Rattle.world_actions.specs.declared.refusal.Refusal.TheVariants.{BadLine}
@@ -42,10 +43,11 @@ module _ {S : Type 0} (runs : S → List Request → Result (List ℕ) Refusal �
   Answers first [] text last = (text ≡ []) × (last ≡ first)
   Answers first (batch ∷ batches) text last =
       (given : Result (List ℕ) Refusal) × (next : S) × (more : List ℕ)
-      × runs first batch given next × Answers next batches more last × (text ≡ line_of given ++ more)
+      × runs first batch given next × Answers next batches more last
+      × (text ≡ line_of given ++ more)
 
-  -- The text of a session on this input: the answers to its batches in order, and a last line if one is too long. Bytes
-  -- without a newline and lines without an `end` are dropped.
+  -- The text of a session on this input: the answers to its batches in order, and a last line if
+  -- one is too long. Bytes without a newline and lines without an `end` are dropped.
   pub record IsSession (first : S) (input text : List ℕ) (last : S) (early : Bool) : Type 0 where
     pub meanings : List (Option Command)
     pub mean : MeanAll (ended_lines input) meanings
@@ -54,15 +56,19 @@ module _ {S : Type 0} (runs : S → List Request → Result (List ℕ) Refusal �
     pub early_is : early ≡ ends_early (batches_of meanings).ended (batches_of meanings).rest
     pub text_is : text ≡ answers ++ early_end early
 
-  -- The line whose writing failed. None was begun, or it was the answer to the next batch, or the one for a batch that is
-  -- too long.
-  pub data BrokenOff (now : S) (later : List (List Request)) (too_long : Bool) (part : List ℕ) (last : S) : Type 0 where
+  -- The line whose writing failed. None was begun, or it was the answer to the next batch, or the
+  -- one for a batch that is too long.
+  pub data BrokenOff (now : S) (later : List (List Request)) (too_long : Bool) (part : List ℕ)
+      (last : S) : Type 0 where
     Between : part ≡ [] → last ≡ now → BrokenOff now later too_long part last
-    InAnswer : (batch : List Request) (others : List (List Request)) (given : Result (List ℕ) Refusal) → later ≡ batch ∷ others → runs now batch given last
+    InAnswer : (batch : List Request) (others : List (List Request))
+        (given : Result (List ℕ) Refusal) → later ≡ batch ∷ others → runs now batch given last
         → IsFront part (line_of given) → BrokenOff now later too_long part last
-    InEnd : later ≡ [] → too_long ≡ true → last ≡ now → IsFront part (fault_text BadLine) → BrokenOff now later too_long part last
+    InEnd : later ≡ [] → too_long ≡ true → last ≡ now → IsFront part (fault_text BadLine)
+        → BrokenOff now later too_long part last
 
-  -- the output after a fault: the answers to the first batches, and then at most a front of the next line
+  -- the output after a fault: the answers to the first batches, and then at most a front
+  -- of the next line
   pub record IsCutOff (first : S) (input written : List ℕ) (last : S) : Type 0 where
     pub meanings : List (Option Command)
     pub mean : MeanAll (ended_lines input) meanings
@@ -74,4 +80,5 @@ module _ {S : Type 0} (runs : S → List Request → Result (List ℕ) Refusal �
     pub answered : Answers first done answers now
     pub part : List ℕ
     pub written_is : written ≡ answers ++ part
-    pub broken : BrokenOff now later (ends_early (batches_of meanings).ended (batches_of meanings).rest) part last
+    pub broken : BrokenOff now later
+        (ends_early (batches_of meanings).ended (batches_of meanings).rest) part last

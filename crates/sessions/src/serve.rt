@@ -1,4 +1,5 @@
-ghost use Rattle.std.specs.Prelude.{◌≡◌, ◌⊎◌, ◌<◌, ◌≤◌, ◌++◌, ◌∷◌, [], ℕ, List, true, false, length, take, IsOk, OnOk, IfOk, IfErr, Ok, Err, Result};
+ghost use Rattle.std.specs.Prelude.{◌≡◌, ◌⊎◌, ◌<◌, ◌≤◌, ◌++◌, ◌∷◌, [], ℕ, List, true, false};
+ghost use Rattle.std.specs.Prelude.{length, take, IsOk, OnOk, IfOk, IfErr, Ok, Err, Result};
 ghost use Rattle.std.specs.Io.KnownBytes.{Appends, Keeps, Consumes, IsAtEnd};
 ghost use Rattle.world_actions.specs.declared.refusal.Refusal.{Refusal as Reason};
 ghost use Rattle.batches.specs.Answer.{fault_text};
@@ -22,8 +23,9 @@ const PIECE_BYTES: usize = 4_096;
 /// More bytes than the line of a refused batch has.
 const FAULT_BYTES: usize = 16;
 
-/// Answers the batches that the reader gives with one line each, and writes nothing else. It ends with `BadLine` if a batch
-/// is too long, with `Device` after a fault of reader or writer, and with `NoMemory` before anything is read.
+/// Answers the batches that the reader gives with one line each, and writes nothing else. It ends
+/// with `BadLine` if a batch is too long, with `Device` after a fault of reader or writer, and with
+/// `NoMemory` before anything is read.
 pub fn serve_lines<R: Read, W: Write, X: World>(
     alloc: Global,
     r: &mut R,
@@ -42,7 +44,8 @@ pub fn serve_lines<R: Read, W: Write, X: World>(
         → (input : List ℕ) × Consumes (R.remaining r.old) (R.remaining r.new) input
         × (written : List ℕ) × Appends (W.contents w.old) (W.contents w.new) written
         × IsCutOff X.runs world.old input written world.new }
-    ensures memory { result ≡ Err Refusal.NoMemory → (r.new ≡ r.old) × (w.new ≡ w.old) × (world.new ≡ world.old) }
+    ensures memory { result ≡ Err Refusal.NoMemory
+        → (r.new ≡ r.old) × (w.new ≡ w.old) × (world.new ≡ world.old) }
     ensures fault { IfErr result (λ refusal. (refusal ≡ Refusal.NoMemory)
         ⊎ ((refusal ≡ Refusal.BadLine) ⊎ (refusal ≡ Refusal.Device))) }
 {
@@ -73,7 +76,8 @@ fn serve_pieces<R: Read, W: Write, X: World>(
         × (input : List ℕ) × Consumes (R.remaining r.old) (R.remaining r.new) input
         × (text : List ℕ) × Appends (W.contents w.old) (W.contents w.new) text
         × IsSession X.runs world.old input text world.new false) }
-    ensures fault { IfErr result (λ refusal. (input : List ℕ) × Consumes (R.remaining r.old) (R.remaining r.new) input
+    ensures fault { IfErr result (λ refusal. (input : List ℕ)
+        × Consumes (R.remaining r.old) (R.remaining r.new) input
         × (text : List ℕ) × Appends (W.contents w.old) (W.contents w.new) text
         × (((refusal ≡ Refusal.BadLine) × IsSession X.runs world.old input text world.new true)
         ⊎ ((refusal ≡ Refusal.Device) × IsCutOff X.runs world.old input text world.new))) }
@@ -96,11 +100,15 @@ fn serve_piece<W: Write, X: World>(
     w: &mut W,
     world: &mut X,
 ) -> Result<(), Refusal>
-    ensures done { OnOk result ((written : List ℕ) × Appends (W.contents w.old) (W.contents w.new) written
+    ensures done { OnOk result
+        ((written : List ℕ) × Appends (W.contents w.old) (W.contents w.new) written
         × Goes X.runs world.old session.old.reader piece.now session.new.reader world.new written) }
-    ensures fault { IfErr result (λ refusal. (written : List ℕ) × Appends (W.contents w.old) (W.contents w.new) written
-        × (((refusal ≡ Refusal.BadLine) × EndsEarly X.runs world.old session.old.reader piece.now world.new written)
-        ⊎ ((refusal ≡ Refusal.Device) × BreaksOff X.runs world.old session.old.reader piece.now world.new written))) }
+    ensures fault { IfErr result (λ refusal. (written : List ℕ)
+        × Appends (W.contents w.old) (W.contents w.new) written
+        × (((refusal ≡ Refusal.BadLine)
+        × EndsEarly X.runs world.old session.old.reader piece.now world.new written)
+        ⊎ ((refusal ≡ Refusal.Device)
+        × BreaksOff X.runs world.old session.old.reader piece.now world.new written))) }
 {
     let mut at = 0;
     while at < piece.len() {
@@ -118,11 +126,16 @@ fn serve_some<W: Write, X: World>(
 ) -> Result<usize, Refusal>
     requires { 0 < length piece.now }
     ensures count { IfOk result (λ n. (0 < n) × (n ≤ length piece.now)) }
-    ensures done { IfOk result (λ n. (written : List ℕ) × Appends (W.contents w.old) (W.contents w.new) written
-        × Goes X.runs world.old session.old.reader (take n piece.now) session.new.reader world.new written) }
-    ensures fault { IfErr result (λ refusal. (written : List ℕ) × Appends (W.contents w.old) (W.contents w.new) written
-        × (((refusal ≡ Refusal.BadLine) × EndsEarly X.runs world.old session.old.reader piece.now world.new written)
-        ⊎ ((refusal ≡ Refusal.Device) × BreaksOff X.runs world.old session.old.reader piece.now world.new written))) }
+    ensures done { IfOk result (λ n. (written : List ℕ)
+        × Appends (W.contents w.old) (W.contents w.new) written
+        × Goes X.runs world.old session.old.reader (take n piece.now)
+        session.new.reader world.new written) }
+    ensures fault { IfErr result (λ refusal. (written : List ℕ)
+        × Appends (W.contents w.old) (W.contents w.new) written
+        × (((refusal ≡ Refusal.BadLine)
+        × EndsEarly X.runs world.old session.old.reader piece.now world.new written)
+        ⊎ ((refusal ≡ Refusal.Device)
+        × BreaksOff X.runs world.old session.old.reader piece.now world.new written))) }
 {
     one_reading();
     let (n, fed) = session.reader.take(piece);
@@ -148,10 +161,13 @@ fn answer_batch<W: Write, X: World>(
     world: &mut X,
 ) -> Result<(), Refusal>
     ensures done { OnOk result ((given : Result (List ℕ) Reason)
-        × X.runs world.old batch.now.list given world.new × Appends (W.contents w.old) (W.contents w.new) (line_of given)) }
-    ensures fault { IfErr result (λ refusal. (refusal ≡ Refusal.Device) × (given : Result (List ℕ) Reason)
         × X.runs world.old batch.now.list given world.new
-        × (front : List ℕ) × IsFront front (line_of given) × Appends (W.contents w.old) (W.contents w.new) front) }
+        × Appends (W.contents w.old) (W.contents w.new) (line_of given)) }
+    ensures fault { IfErr result (λ refusal. (refusal ≡ Refusal.Device)
+        × (given : Result (List ℕ) Reason)
+        × X.runs world.old batch.now.list given world.new
+        × (front : List ℕ) × IsFront front (line_of given)
+        × Appends (W.contents w.old) (W.contents w.new) front) }
 {
     match world.batch(batch, text) {
         Ok(()) => write_whole(w, text),
@@ -161,9 +177,11 @@ fn answer_batch<W: Write, X: World>(
 
 // Writes the line of a refused batch. It takes no memory.
 fn write_fault<W: Write>(w: &mut W, refusal: Refusal) -> Result<(), Refusal>
-    ensures done { OnOk result (Appends (W.contents w.old) (W.contents w.new) (fault_text refusal)) }
+    ensures done { OnOk result
+        (Appends (W.contents w.old) (W.contents w.new) (fault_text refusal)) }
     ensures fault { IfErr result (λ error. (error ≡ Refusal.Device)
-        × (front : List ℕ) × IsFront front (fault_text refusal) × Appends (W.contents w.old) (W.contents w.new) front) }
+        × (front : List ℕ) × IsFront front (fault_text refusal)
+        × Appends (W.contents w.old) (W.contents w.new) front) }
 {
     let line = fault_line(refusal);
     write_whole(w, line.as_bytes())

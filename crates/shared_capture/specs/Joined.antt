@@ -1,5 +1,6 @@
 -- Both seats in one store, as contracts see them.
-use Rattle.std.specs.Prelude.{◌≡◌, ℕ, ◌≤◌, List, [], ◌∷◌, Option, length, drop, Bool, true, false, All}
+use Rattle.std.specs.Prelude.{◌≡◌, ℕ, ◌≤◌, List, [], ◌∷◌, Option, length, drop, Bool, true, false}
+use Rattle.std.specs.Prelude.{All}
 use Rattle.std.specs.Bool.{then_some}
 use Rattle.capture_core.specs.Content.{Content}
 use Rattle.shared_capture.specs.declared.view.Round.{Round}

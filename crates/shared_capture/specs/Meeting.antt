@@ -1,6 +1,7 @@
 -- Inside: for the proofs of this crate's private functions.
 -- The two seats meet: they are joined to one seat, which loads the phase, and then part again.
-use Rattle.std.specs.Prelude.{Some, ◌≡◌, ℕ, ◌+◌, ◌==◌, length, slice_index, slice_get, Bool, true, false}
+use Rattle.std.specs.Prelude.{Some, ◌≡◌, ℕ, ◌+◌, ◌==◌, length, slice_index, slice_get, Bool, true}
+use Rattle.std.specs.Prelude.{false}
 use Rattle.atomic_table.specs.Table.{Step}
 use Rattle.shared_capture.specs.declared.method.Kind.{Kind}
 use Rattle.shared_capture.specs.declared.view.Round.{Round}
@@ -43,9 +44,11 @@ after_meet found b = met_as b.working found b
 -- if the phase is 0, no round is open; otherwise the front's last round is in work
 abbrev pub MetAs : Bool → ℕ → FrontView → BackView → Type 0
 MetAs true found f b = (length f.rounds ≡ length b.done) × (b.working ≡ false)
-MetAs false found f b = (length f.rounds ≡ length b.done + 1) × (b.working ≡ true) × (b.now.tick ≡ found)
+MetAs false found f b =
+    (length f.rounds ≡ length b.done + 1) × (b.working ≡ true) × (b.now.tick ≡ found)
 
--- the facts after a meeting: the rounds agree, one is open or none is, and the fetched marks are the round's
+-- the facts after a meeting: the rounds agree, one is open or none is, and the fetched
+-- marks are the round's
 pub record Met (kind : Kind) (found : ℕ) (f : FrontView) (b : BackView) : Type 0 where
   pub agrees : Agree f.rounds (snapshots_as b.working b.done b.now)
   pub level : MetAs (found == 0) found f b

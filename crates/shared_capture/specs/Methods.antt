@@ -1,5 +1,6 @@
 -- The differences between the two methods.
-use Rattle.std.specs.Prelude.{ℕ, zero, suc, ◌+◌, List, [], ◌∷◌, length, replicate, Bool, true, false, not}
+use Rattle.std.specs.Prelude.{ℕ, zero, suc, ◌+◌, List, [], ◌∷◌, length, replicate, Bool, true}
+use Rattle.std.specs.Prelude.{false, not}
 use Rattle.packed_marks.specs.Bits.{chunks, marked}
 use Rattle.shared_capture.specs.declared.method.Kind.{Kind}
 use Rattle.shared_capture.specs.declared.method.Kind.TheVariants.{Zigzag, PingPong}
@@ -42,7 +43,8 @@ mark_steps PingPong n = 2
 -- a flag for each of n cells from cell i on: true if the cell is taken as a word
 abbrev pub touched_from : Kind → ℕ → ℕ → List ℕ → List Bool
 touched_from kind zero i marks = []
-touched_from kind (suc n) i marks = is_word kind (marked marks i) ∷ touched_from kind n (suc i) marks
+touched_from kind (suc n) i marks =
+    is_word kind (marked marks i) ∷ touched_from kind n (suc i) marks
 
 -- a flag for each of n cells: true if the cell counts as touched, as every cell does in Zigzag
 abbrev pub touched_of : Kind → ℕ → List ℕ → List Bool

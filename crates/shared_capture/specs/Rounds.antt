@@ -1,5 +1,6 @@
 -- The rounds that were marked, and the cells that were taken of them.
-use Rattle.std.specs.Prelude.{Some, ◌≡◌, ◌-◌, ℕ, List, [], ◌∷◌, ◌++◌, length, replicate, slice_index, slice_index_or, slice_get, Bool, true, false}
+use Rattle.std.specs.Prelude.{Some, ◌≡◌, ◌-◌, ℕ, List, [], ◌∷◌, ◌++◌, length, replicate}
+use Rattle.std.specs.Prelude.{slice_index, slice_index_or, slice_get, Bool, true, false}
 use Rattle.capture_core.specs.declared.taker.Taken.{Taken}
 use Rattle.capture_core.specs.declared.taker.Taken.TheVariants.{Word, Same}
 use Rattle.shared_capture.specs.declared.view.Round.{Round}
@@ -24,7 +25,8 @@ shown r i = shown_as (flag_at r.touched i) (slice_index r.words i)
 
 -- a snapshot has the tick of a round, and each of its cells was taken as the round has it
 abbrev pub IsTakenOf : Round → Snapshot → Type 0
-IsTakenOf r s = (s.tick ≡ r.tick) × ((i : ℕ) (t : Taken) → slice_get s.taken i ≡ Some t → t ≡ shown r i)
+IsTakenOf r s =
+    (s.tick ≡ r.tick) × ((i : ℕ) (t : Taken) → slice_get s.taken i ≡ Some t → t ≡ shown r i)
 
 -- round by round, the taken cells are those that were marked
 abbrev pub Agree : List Round → List Snapshot → Type 0

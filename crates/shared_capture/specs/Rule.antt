@@ -1,6 +1,7 @@
--- Inside: for the proofs of this crate's private functions.
--- The rule of the table: the facts on its words and on the knowledge of the two seats, between any two steps.
-use Rattle.std.specs.Prelude.{Some, ◌≡◌, ℕ, ◌+◌, ◌<◌, ◌≤◌, List, [], length, slice_index, slice_get, Bool, true, false, not}
+-- Inside: for the proofs of this crate's private functions. The rule of the table: the facts on its
+-- words and on the knowledge of the two seats, between any two steps.
+use Rattle.std.specs.Prelude.{Some, ◌≡◌, ℕ, ◌+◌, ◌<◌, ◌≤◌, List, [], length, slice_index, slice_get}
+use Rattle.std.specs.Prelude.{Bool, true, false, not}
 use mathlib.Core.Option as maybe
 use lib.ListN.{get_elem?}
 use Rattle.world_actions.specs.World.{IsWord}
@@ -19,20 +20,25 @@ use Rattle.shared_capture.specs.Table.{cell_place, mark_place, table_words}
 use Rattle.shared_capture.specs.Seats.{FitsCells}
 
 -- the table holds what is left of the open round, and no write reaches those places
-pub record Left (kind : Kind) (n : ℕ) (words : List ℕ) (f : FrontView) (b : BackView) (r : Round) : Type 0 where
+pub record Left (kind : Kind) (n : ℕ) (words : List ℕ) (f : FrontView) (b : BackView)
+    (r : Round) : Type 0 where
   pub touched : r.touched ≡ touched_of kind n f.last
   pub kept : (i : ℕ) → i < n → is_word kind (marked f.last i) ≡ true
-      → slice_index words (cell_place n (take_side kind b.current (marked f.last i)) i) ≡ slice_index r.words i
+      → slice_index words (cell_place n (take_side kind b.current (marked f.last i)) i)
+      ≡ slice_index r.words i
   pub apart : (i : ℕ) → i < n
-      → take_side kind b.current (marked f.last i) ≡ not (write_side kind f.current (marked f.marks i))
+      → take_side kind b.current (marked f.last i)
+      ≡ not (write_side kind f.current (marked f.marks i))
   pub turned : b.current ≡ not f.current
   pub left : (k : ℕ) → k < chunks n → length b.marks ≤ k
       → slice_index words (mark_place n (row kind b.current) k) ≡ slice_index f.last k
   pub swapped : kind ≡ PingPong → (k : ℕ) → k < chunks n → k < length b.marks
       → slice_index words (mark_place n b.current k) ≡ 0
 
--- a round is open: it is the front's last round, the back has not done it, and the phase is its tick
-pub record IsOpen (kind : Kind) (n : ℕ) (words : List ℕ) (f : FrontView) (b : BackView) : Type 0 where
+-- a round is open: it is the front's last round, the back has not done it, and the
+-- phase is its tick
+pub record IsOpen (kind : Kind) (n : ℕ) (words : List ℕ) (f : FrontView)
+    (b : BackView) : Type 0 where
   pub round : Round
   pub at : slice_get f.rounds (length b.done) ≡ Some round
   pub one_more : length f.rounds ≡ length b.done + 1
@@ -40,11 +46,13 @@ pub record IsOpen (kind : Kind) (n : ℕ) (words : List ℕ) (f : FrontView) (b 
   pub left : Left kind n words f b round
 
 -- no round is open: the back has done all rounds, and the row for the next marks is clear
-pub record IsEnded (kind : Kind) (n : ℕ) (words : List ℕ) (f : FrontView) (b : BackView) : Type 0 where
+pub record IsEnded (kind : Kind) (n : ℕ) (words : List ℕ) (f : FrontView)
+    (b : BackView) : Type 0 where
   pub level : length f.rounds ≡ length b.done
   pub idle : b.working ≡ false
   pub same : b.current ≡ f.current
-  pub clean : kind ≡ PingPong → (k : ℕ) → k < chunks n → slice_index words (mark_place n (not f.current) k) ≡ 0
+  pub clean : kind ≡ PingPong → (k : ℕ) → k < chunks n
+      → slice_index words (mark_place n (not f.current) k) ≡ 0
 
 -- the back knows the open round, and took its cells as the round has them
 pub record Looked (words : List ℕ) (f : FrontView) (b : BackView) : Type 0 where
@@ -57,7 +65,8 @@ pub record HasFront (kind : Kind) (n : ℕ) (words : List ℕ) (f : FrontView) :
   pub wide : length words ≡ table_words n
   pub fits : FitsCells n f
   pub small : (s : Bool) (i : ℕ) → i < n → IsWord (slice_index words (cell_place n s i))
-  pub live : (i : ℕ) → i < n → slice_index words (cell_place n (flag_at f.sides i) i) ≡ slice_index f.live i
+  pub live : (i : ℕ) → i < n
+      → slice_index words (cell_place n (flag_at f.sides i) i) ≡ slice_index f.live i
   pub marks : (k : ℕ) → k < chunks n
       → slice_index words (mark_place n (row kind f.current) k) ≡ slice_index f.marks k
   pub closed : f.closed ≡ true → slice_index words 0 ≡ 0
@@ -87,4 +96,5 @@ pub record Kept (kind : Kind) (n : ℕ) (s : State (Unit {0}) View) : Type 0 whe
   pub back : BackView
   pub back_at : ℕ
   pub core : Core kind n s.words front back
-  pub each_seat : (j : ℕ) (v : View) → get_elem? s.views j ≡ maybe.some v → Knows front front_at back back_at j v
+  pub each_seat : (j : ℕ) (v : View) → get_elem? s.views j ≡ maybe.some v
+      → Knows front front_at back back_at j v

@@ -1,5 +1,6 @@
 -- The premises of a seat's steps, and the data that its owner keeps beside it.
-use Rattle.std.specs.Prelude.{Some, ◌≡◌, ◌≢◌, ℕ, ◌+◌, ◌<◌, ◌≤◌, ◌%◌, ◌/◌, List, [], length, slice_get, slice_index, Bool, true, false, not, All}
+use Rattle.std.specs.Prelude.{Some, ◌≡◌, ◌≢◌, ℕ, ◌+◌, ◌<◌, ◌≤◌, ◌%◌, ◌/◌, List, [], length}
+use Rattle.std.specs.Prelude.{slice_get, slice_index, Bool, true, false, not, All}
 use Rattle.world_actions.specs.World.{IsWord}
 use Rattle.atomic_table.specs.Seated.{TableId}
 use Rattle.atomic_table.specs.declared.shared.Seat.{Seat}
@@ -43,13 +44,15 @@ SameRest f g = (g.rounds ≡ f.rounds) × (g.live ≡ f.live) × (g.sides ≡ f.
     × (g.current ≡ f.current) × (g.closed ≡ f.closed) × (g.loads ≡ f.loads)
 
 -- the two seats of a new table of n cells, which was made from k words
-pub record IsSeated (t : TableId) (k n : ℕ) (words marks : List ℕ) (front back : TableSeat) : Type 0 where
+pub record IsSeated (t : TableId) (k n : ℕ) (words marks : List ℕ)
+    (front back : TableSeat) : Type 0 where
   pub cells : k ≡ n
   pub has : HasCells n t
   pub sits_front : IsFront t (front_start words marks) front
   pub sits_back : IsBack t (back_start n) back
 
--- a round may be marked: each cell that counts as touched has its live word in the array from which it will be taken
+-- a round may be marked: each cell that counts as touched has its live word in the array from which
+-- it will be taken
 abbrev pub IsReady : Kind → ℕ → FrontView → Type 0
 IsReady kind n f = (i : ℕ) → i < n → is_word kind (marked f.marks i) ≡ true
     → flag_at f.sides i ≡ take_side kind f.current (marked f.marks i)
@@ -63,7 +66,8 @@ pub record IsSame (kind : Kind) (i : ℕ) (b : BackView) : Type 0 where
 -- the mark word of cell i was fetched, if it was not before
 pub record IsFetched (i mark : ℕ) (b c : BackView) : Type 0 where
   pub now : c.now ≡ b.now
-  pub same : (c.cells ≡ b.cells) × (c.done ≡ b.done) × (c.working ≡ b.working) × (c.current ≡ b.current)
+  pub same : (c.cells ≡ b.cells) × (c.done ≡ b.done) × (c.working ≡ b.working)
+      × (c.current ≡ b.current)
       × (c.loads ≡ b.loads)
   pub steps : c.steps ≤ b.steps + 1
   pub fetched : length c.marks ≡ chunks (i + 1)
@@ -73,8 +77,10 @@ pub record IsFetched (i mark : ℕ) (b c : BackView) : Type 0 where
 -- the list has each place at which the two lists differ, once
 pub record ListsChanges (marks away places : List ℕ) : Type 0 where
   pub differ : (i : ℕ) → i < length places
-      → let k = slice_index places i in (k < length marks) × (slice_index marks k ≢ slice_index away k)
-  pub once : (i j : ℕ) → i < length places → j < length places → slice_index places i ≡ slice_index places j → i ≡ j
+      → let k = slice_index places i in (k < length marks)
+      × (slice_index marks k ≢ slice_index away k)
+  pub once : (i j : ℕ) → i < length places → j < length places
+      → slice_index places i ≡ slice_index places j → i ≡ j
   pub all : (k : ℕ) → k < length marks → slice_index marks k ≢ slice_index away k
       → (i : ℕ) × (i < length places) × (slice_index places i ≡ k)
 
@@ -90,9 +96,11 @@ pub record IsFrontOf (kind : Kind) (t : TableId) (n : ℕ) (seat : TableSeat)
   pub current_is : (front_of seat.me.0).current ≡ current
   pub ready : kind ≡ PingPong → IsReady kind n (front_of seat.me.0)
   pub away_packed : kind ≡ Zigzag → IsPacked n away
-  pub away_are : kind ≡ Zigzag → (i : ℕ) → i < n → flag_at (front_of seat.me.0).sides i ≡ not (marked away i)
+  pub away_are : kind ≡ Zigzag → (i : ℕ) → i < n
+      → flag_at (front_of seat.me.0).sides i ≡ not (marked away i)
 
--- the fields of the back are what its seat knows; the mark word of the next cell is one of them if it was fetched
+-- the fields of the back are what its seat knows; the mark word of the next cell is one of them
+-- if it was fetched
 pub record IsBackOf (kind : Kind) (t : TableId) (n : ℕ) (seat : TableSeat)
     (cells tick at mark : ℕ) (current : Bool) : Type 0 where
   pub sits : IsBack t (back_of seat.me.0) seat

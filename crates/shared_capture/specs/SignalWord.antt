@@ -21,17 +21,20 @@ last_of (tick ∷ next ∷ ticks) = last_of (next ∷ ticks)
 
 -- each of these was stored, or is 0
 abbrev pub AreStored : (stored loaded : List ℕ) → Type 0
-AreStored stored loaded = (i tick : ℕ) → slice_get loaded i ≡ Some tick → (tick ≡ 0) ⊎ ((j : ℕ) × (slice_get stored j ≡ Some tick))
+AreStored stored loaded =
+    (i tick : ℕ) → slice_get loaded i ≡ Some tick
+    → (tick ≡ 0) ⊎ ((j : ℕ) × (slice_get stored j ≡ Some tick))
 
 -- a seat with this view is the one that stores, the one that loads, both, or has no use any more
 abbrev pub Knows : List ℕ → ℕ → List ℕ → ℕ → ℕ → SignalView → Type 0
 Knows stored p loaded q seat Spent = Unit {0}
 Knows stored p loaded q seat (Out ticks) = (seat ≡ p) × (ticks ≡ stored)
 Knows stored p loaded q seat (In ticks) = (seat ≡ q) × (ticks ≡ loaded)
-Knows stored p loaded q seat (Both first second) = (seat ≡ p) × (seat ≡ q) × (first ≡ stored) × (second ≡ loaded)
+Knows stored p loaded q seat (Both first second) =
+    (seat ≡ p) × (seat ≡ q) × (first ≡ stored) × (second ≡ loaded)
 
--- The rule: the word is the last tick that was stored, or 0. Each loaded tick was stored, or is 0. No other seat knows
--- anything.
+-- The rule: the word is the last tick that was stored, or 0. Each loaded tick was stored, or is 0.
+-- No other seat knows anything.
 pub record Kept (s : State (Unit {0}) SignalView) : Type 0 where
   pub stored : List ℕ
   pub out_at : ℕ
@@ -39,7 +42,8 @@ pub record Kept (s : State (Unit {0}) SignalView) : Type 0 where
   pub in_at : ℕ
   pub word : s.words ≡ last_of stored ∷ []
   pub are_stored : AreStored stored loaded
-  pub each_seat : (j : ℕ) (v : SignalView) → get_elem? s.views j ≡ maybe.some v → Knows stored out_at loaded in_at j v
+  pub each_seat : (j : ℕ) (v : SignalView) → get_elem? s.views j ≡ maybe.some v
+      → Knows stored out_at loaded in_at j v
 
 -- ---- the facts after each step
 
@@ -85,7 +89,8 @@ paired first second = first
 abbrev pub SignalSeat : Type 0
 SignalSeat = Seat (Unit {0}) SignalView
 
--- the seat is at this word and stored these ticks (`IsOut`), loaded them (`IsIn`), or knows of both (`IsBoth`)
+-- the seat is at this word and stored these ticks (`IsOut`), loaded them (`IsIn`), or knows
+-- of both (`IsBoth`)
 abbrev pub IsOut : TableId → List ℕ → SignalSeat → Type 0
 IsOut t stored seat = (seat.table_id ≡ t) × (seat.me ≡ (Out stored, [])) × (t.words ≡ 1)
 
@@ -93,4 +98,5 @@ abbrev pub IsIn : TableId → List ℕ → SignalSeat → Type 0
 IsIn t loaded seat = (seat.table_id ≡ t) × (seat.me ≡ (In loaded, [])) × (t.words ≡ 1)
 
 abbrev pub IsBoth : TableId → (stored loaded : List ℕ) → SignalSeat → Type 0
-IsBoth t stored loaded seat = (seat.table_id ≡ t) × (seat.me ≡ (Both stored loaded, [])) × (t.words ≡ 1)
+IsBoth t stored loaded seat =
+    (seat.table_id ≡ t) × (seat.me ≡ (Both stored loaded, [])) × (t.words ≡ 1)

@@ -6,7 +6,8 @@ use Rattle.shared_capture.specs.declared.view.BackView.{BackView}
 use Rattle.shared_capture.specs.declared.view.View.{View}
 use Rattle.shared_capture.specs.declared.view.View.TheVariants.{Pair}
 
--- the words of a new table: phase 0, the words in both arrays, the marks in the first row, and none in the second
+-- the words of a new table: phase 0, the words in both arrays, the marks in the first row, and
+-- none in the second
 abbrev pub opening_words : List ℕ → List ℕ → List ℕ
 opening_words words marks = 0 ∷ (words ++ (words ++ (marks ++ replicate (chunks (length words)) 0)))
 

@@ -1,5 +1,6 @@
 -- The two seats as contracts see them.
-use Rattle.std.specs.Prelude.{◌≡◌, ◌≢◌, ℕ, ◌+◌, ◌<◌, ◌≤◌, List, [], ◌∷◌, ◌++◌, Option, length, replicate, slice_index, slice_set, Bool, true, false, MatchOption}
+use Rattle.std.specs.Prelude.{◌≡◌, ◌≢◌, ℕ, ◌+◌, ◌<◌, ◌≤◌, List, [], ◌∷◌, ◌++◌, Option, length}
+use Rattle.std.specs.Prelude.{replicate, slice_index, slice_set, Bool, true, false, MatchOption}
 use Rattle.world_actions.specs.Effect.{Write}
 use Rattle.world_actions.specs.declared.refusal.Refusal.{Refusal}
 use Rattle.world_actions.specs.declared.refusal.Refusal.TheVariants.{Busy}
@@ -16,8 +17,9 @@ use Rattle.shared_capture.specs.Rounds.{flag_at, round, snapshots_as, padded}
 
 -- ## The front
 
--- The pair of the front, its live words and touched cells, and the rounds that it marked. `closed` is true if it knows
--- that no round is open. `loads` are the phase words that it loaded, and `steps` is the number of its word steps.
+-- The pair of the front, its live words and touched cells, and the rounds that it marked. `closed`
+-- is true if it knows that no round is open. `loads` are the phase words that it loaded, and
+-- `steps` is the number of its word steps.
 pub record FrontState : Type 0 where
   pub pair : TableId
   pub live : List ℕ
@@ -67,7 +69,8 @@ HasFlags front = length front.touched ≡ length front.live
 -- a cell that isn't touched now wasn't touched before, and still has its word
 pub record KeepsUntouched (old new : FrontState) : Type 0 where
   pub flags : HasFlags new
-  pub cells : (i : ℕ) → flag_at new.touched i ≡ false → (flag_at old.touched i ≡ false) × (slice_index new.live i ≡ slice_index old.live i)
+  pub cells : (i : ℕ) → flag_at new.touched i ≡ false
+      → (flag_at old.touched i ≡ false) × (slice_index new.live i ≡ slice_index old.live i)
 
 -- the rounds of a front after one more round, of this tick and of the words as they are
 abbrev pub marked_rounds : FrontState → ℕ → List Round
@@ -75,13 +78,15 @@ marked_rounds front tick = front.rounds ++ round tick front.live front.touched �
 
 -- a mark was refused: no round is added, and the phase word that was loaded isn't 0
 abbrev pub IsRefused : FrontState → Refusal → FrontState → Type 0
-IsRefused old refusal new = (refusal ≡ Busy) × (new.rounds ≡ old.rounds) × (new.touched ≡ old.touched)
+IsRefused old refusal new =
+    (refusal ≡ Busy) × (new.rounds ≡ old.rounds) × (new.touched ≡ old.touched)
     × ((phase : ℕ) × (phase ≢ 0) × (new.loads ≡ old.loads ++ phase ∷ []))
 
 -- ## The back
 
--- The pair of the back, the number of cells, the rounds that it has done, and the one in work. `working` is true if there
--- is one in work. `loads` are the phase words that it loaded, and `steps` is the number of its word steps.
+-- The pair of the back, the number of cells, the rounds that it has done, and the one in work.
+-- `working` is true if there is one in work. `loads` are the phase words that it loaded, and
+-- `steps` is the number of its word steps.
 pub record BackState : Type 0 where
   pub pair : TableId
   pub cells : ℕ
@@ -91,7 +96,8 @@ pub record BackState : Type 0 where
   pub loads : List ℕ
   pub steps : ℕ
 
--- a back with this knowledge that has taken this many cells of the round in work, as contracts see it
+-- a back with this knowledge that has taken this many cells of the round in work, as
+-- contracts see it
 abbrev pub back_state : TableId → ℕ → BackView → BackState
 back_state t at b = record {
   pair = t;
@@ -137,7 +143,8 @@ FoundNone old new = (new.working ≡ false) × (new.loads ≡ old.loads ++ 0 ∷
 
 -- the back loaded the phase, which was the tick of a round; no cell of that round is taken yet
 abbrev pub FoundRound : BackState → ℕ → BackState → Type 0
-FoundRound old tick new = (tick ≢ 0) × (new.working ≡ true) × (new.now.tick ≡ tick) × (new.now.taken ≡ [])
+FoundRound old tick new =
+    (tick ≢ 0) × (new.working ≡ true) × (new.now.tick ≡ tick) × (new.now.taken ≡ [])
     × (new.loads ≡ old.loads ++ tick ∷ [])
 
 -- ## Both
@@ -158,7 +165,8 @@ pub record MetBack (old new : BackState) : Type 0 where
   pub known : old.working ≡ true → (new.working ≡ true) × (new.now ≡ old.now)
   pub found : old.working ≡ false → new.working ≡ true → new.now.taken ≡ []
 
--- if the front knows that no round is open, none is in work; otherwise the front's last round is in work
+-- if the front knows that no round is open, none is in work; otherwise the front's last
+-- round is in work
 abbrev pub KnowsOpen : Bool → FrontState → BackState → Type 0
 KnowsOpen true f b = (length f.rounds ≡ length b.done) × (b.working ≡ false)
 KnowsOpen false f b = (length f.rounds ≡ length b.done + 1) × (b.working ≡ true)

@@ -1,5 +1,6 @@
 -- The knowledge of a seat after each step, and the facts that each step gives.
-use Rattle.std.specs.Prelude.{◌≡◌, ℕ, ◌+◌, ◌<◌, ◌==◌, [], ◌∷◌, ◌++◌, length, slice_set, Bool, true, false, not}
+use Rattle.std.specs.Prelude.{◌≡◌, ℕ, ◌+◌, ◌<◌, ◌==◌, [], ◌∷◌, ◌++◌, length, slice_set, Bool, true}
+use Rattle.std.specs.Prelude.{false, not}
 use Rattle.world_actions.specs.World.{IsWord}
 use Rattle.capture_core.specs.declared.taker.Taken.{Taken}
 use Rattle.capture_core.specs.declared.taker.Taken.TheVariants.{Word, Same}
@@ -19,7 +20,8 @@ use Rattle.shared_capture.specs.Start.{front_start, back_start}
 
 -- the front after it loaded the phase
 abbrev pub after_load : ℕ → FrontView → FrontView
-after_load found f = record f { closed = found == 0; loads = f.loads ++ found ∷ []; steps = f.steps + 1 }
+after_load found f =
+    record f { closed = found == 0; loads = f.loads ++ found ∷ []; steps = f.steps + 1 }
 
 -- the front after it stored a word of cell i in one of the arrays
 abbrev pub after_write : ℕ → Bool → ℕ → FrontView → FrontView
@@ -114,12 +116,14 @@ phase_loaded st m found m' = (m' ≡ (Front (after_load found (front_of m.0)), m
 -- the front stores the word of a cell
 abbrev pub value_stored : Step (Unit {0}) → Sitting → ℕ → Sitting → Type 0
 value_stored st m word m' = (i : ℕ) (second : Bool) → let f = front_of m.0 in
-    st.word ≡ cell_place (length f.live) second i → i < length f.live → m' ≡ (Front (after_write i second word f), m.1)
+    st.word ≡ cell_place (length f.live) second i → i < length f.live
+    → m' ≡ (Front (after_write i second word f), m.1)
 
 -- the front stores a mark word
 abbrev pub mark_stored : Step (Unit {0}) → Sitting → ℕ → Sitting → Type 0
 mark_stored st m word m' = (k : ℕ) (second : Bool) → let f = front_of m.0 in
-    st.word ≡ mark_place (length f.live) second k → k < chunks (length f.live) → m' ≡ (Front (after_mark k word f), m.1)
+    st.word ≡ mark_place (length f.live) second k → k < chunks (length f.live)
+    → m' ≡ (Front (after_mark k word f), m.1)
 
 -- the front opens a round
 abbrev pub phase_stored : Kind → Step (Unit {0}) → Sitting → ℕ → Sitting → Type 0
@@ -136,7 +140,8 @@ mark_fetched st m found m' = m' ≡ (Back (after_fetch found (back_of m.0)), m.1
 -- the back loads the word of a cell
 abbrev pub value_loaded : Step (Unit {0}) → Sitting → ℕ → Sitting → Type 0
 value_loaded st m found m' = ((i : ℕ) (second : Bool) → let b = back_of m.0 in
-    st.word ≡ cell_place b.cells second i → i < b.cells → m' ≡ (Back (after_take i found b), m.1)) × IsWord found
+    st.word ≡ cell_place b.cells second i → i < b.cells → m' ≡ (Back (after_take i found b), m.1))
+    × IsWord found
 
 -- the back ends the round
 abbrev pub finished : Step (Unit {0}) → Sitting → ℕ → Sitting → Type 0

@@ -1,10 +1,13 @@
 //! The seat that takes.
-ghost use Rattle.std.specs.Prelude.{◌≡◌, ◌+◌, ◌<◌, ◌≤◌, [], ◌∷◌, ◌++◌, true, false, vec_len, length, IfSome, IfNone, IsTrue, ◌↔◌, Some};
+ghost use Rattle.std.specs.Prelude.{◌≡◌, ◌+◌, ◌<◌, ◌≤◌, [], ◌∷◌, ◌++◌, true, false, vec_len};
+ghost use Rattle.std.specs.Prelude.{length, IfSome, IfNone, IsTrue, ◌↔◌, Some};
 ghost use Rattle.std.specs.Arc.{arc_value};
 ghost use Rattle.capture_core.specs.Taken.{IsTakenWord};
 ghost use Rattle.shared_capture.specs.Steps.{back_of};
 ghost use Rattle.shared_capture.specs.Seats.{IsBackOf};
-ghost use Rattle.shared_capture.specs.States.{BackState, back_state, SameDone, SameRound, HasNoneLeft, IsTaken, TookBack, FoundNone, FoundRound};
+ghost use Rattle.shared_capture.specs.States.{BackState, back_state, SameDone, SameRound};
+ghost use Rattle.shared_capture.specs.States.{HasNoneLeft, IsTaken, TookBack, FoundNone};
+ghost use Rattle.shared_capture.specs.States.{FoundRound};
 
 use crate::method::Method;
 use crate::steps::{finish, look, mark_for, take_known};

@@ -1,5 +1,6 @@
 //! The seat that writes and marks.
-ghost use Rattle.std.specs.Prelude.{◌≡◌, ◌≢◌, ℕ, List, ◌+◌, ◌<◌, ◌≤◌, true, vec_len, vec_capacity, length, slice_index, slice_set, All, IsOk, IfErr, OnOk};
+ghost use Rattle.std.specs.Prelude.{◌≡◌, ◌≢◌, ℕ, List, ◌+◌, ◌<◌, ◌≤◌, true, vec_len, vec_capacity};
+ghost use Rattle.std.specs.Prelude.{length, slice_index, slice_set, All, IsOk, IfErr, OnOk};
 ghost use Rattle.std.specs.Arc.{arc_value};
 ghost use Rattle.world_actions.specs.World.{IsWord};
 ghost use Rattle.world_actions.specs.Effect.{Write};
@@ -13,7 +14,9 @@ ghost use Rattle.shared_capture.specs.Methods.{mark_steps};
 ghost use Rattle.shared_capture.specs.Table.{HasCells};
 ghost use Rattle.shared_capture.specs.Steps.{front_of};
 ghost use Rattle.shared_capture.specs.Seats.{ListsChanges, FitsCells, IsFront, IsFrontOf, SameRest};
-ghost use Rattle.shared_capture.specs.States.{FrontState, front_state, HasFlags, KeepsUntouched, SameRounds, SameWords, accessed_front, marked_rounds, IsRefused};
+ghost use Rattle.shared_capture.specs.States.{FrontState, front_state, HasFlags, KeepsUntouched};
+ghost use Rattle.shared_capture.specs.States.{SameRounds, SameWords, accessed_front, marked_rounds};
+ghost use Rattle.shared_capture.specs.States.{IsRefused};
 
 use crate::method::{Kind, Method};
 use crate::steps::{load_phase, store_mark, store_phase, store_value};
@@ -33,7 +36,8 @@ pub struct Front<M: Method> {
     pub(crate) live: Vec<u64>,
     /// The mark words of the current row.
     pub(crate) marks: Vec<u64>,
-    /// For Zigzag: a bit for each cell, 64 to a word, which names the array that doesn't have the cell's live word.
+    /// For Zigzag: a bit for each cell, 64 to a word, which names the array that doesn't have the
+    /// cell's live word.
     pub(crate) away: Vec<u64>,
     /// For Zigzag: the places of the mark words that the next mark changes.
     pub(crate) changed: Vec<usize>,
@@ -147,8 +151,8 @@ impl<M: Method> Front<M> {
         self.away[i / 64] = with_bit(self.away[i / 64], i % 64, !second);
     }
 
-    // Stores the word, and the cell's mark. If the cell was written since the last round was marked, its mark isn't
-    // stored again.
+    // Stores the word, and the cell's mark. If the cell was written since the last round was
+    // marked, its mark isn't stored again.
     fn write_ping_pong(&mut self, i: usize, v: u64)
         requires kind { M.KIND ≡ PingPong }
         requires inside { i < length self.old.live }
@@ -263,11 +267,13 @@ fn turn_marks<M: Method>(
     }
 }
 
-/// Laws: accesses of a front leave its pair, its rounds and the phase words that it loaded as they were. They also leave
-/// the words of the cells that aren't touched.
+/// Laws: accesses of a front leave its pair, its rounds and the phase words that it loaded as they
+/// were. They also leave the words of the cells that aren't touched.
 pub fn accesses_keep()
-    ensures rounds { (old new : FrontState) (writes : List Write) → Performs accessed_front old writes new
+    ensures rounds { (old new : FrontState) (writes : List Write)
+        → Performs accessed_front old writes new
         → SameRounds old new }
-    ensures untouched { (old new : FrontState) (writes : List Write) → Performs accessed_front old writes new
+    ensures untouched { (old new : FrontState) (writes : List Write)
+        → Performs accessed_front old writes new
         → HasFlags old → KeepsUntouched old new }
 {}

@@ -120,7 +120,8 @@ fn begin_round<M: Method>(front: &mut Front<M>, back: &mut Back<M>)
     requires joined { IsJoined front.old back.old }
     requires closed { front.old.closed ≡ true }
     ensures joined { IsJoined front.new back.new }
-    ensures content { (content_of front.new back.new).left ≡ entries front.old.touched front.old.live }
+    ensures content { (content_of front.new back.new).left
+        ≡ entries front.old.touched front.old.live }
     ensures live { front.new.live ≡ front.old.live }
 {
     let Ok(()) = front.mark_words(1) else {

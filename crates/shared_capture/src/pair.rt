@@ -21,7 +21,8 @@ use std::alloc::{AllocError, Global};
 use std::sync::Arc;
 use world_actions::Refusal;
 
-/// Makes two seats of the method Zigzag at a new table with these words. The front keeps their list.
+/// Makes two seats of the method Zigzag at a new table with these words. The front
+/// keeps their list.
 pub fn zigzag_pair(alloc: Global, words: Vec<u64>) -> Result<(Front<Zig>, Back<Zig>), Refusal>
     requires { All IsWord words.items }
     ensures ok { IfOk result (λ pair. IsStart words.items pair.0 pair.1) }
@@ -30,7 +31,8 @@ pub fn zigzag_pair(alloc: Global, words: Vec<u64>) -> Result<(Front<Zig>, Back<Z
     pair(alloc, words)
 }
 
-/// Makes two seats of the method Ping-Pong at a new table with these words. The front keeps their list.
+/// Makes two seats of the method Ping-Pong at a new table with these words. The front
+/// keeps their list.
 pub fn ping_pong_pair(alloc: Global, words: Vec<u64>) -> Result<(Front<Pong>, Back<Pong>), Refusal>
     requires { All IsWord words.items }
     ensures ok { IfOk result (λ pair. IsStart words.items pair.0 pair.1) }
@@ -95,7 +97,8 @@ type Halves<M> = (
 fn shared_table<M: Method>(alloc: Global, key: &Opening) -> Result<Halves<M>, AllocError>
     requires { All IsWord key.now.live.items × IsFull (vec_len key.now.live) key.now.marks.items }
     ensures { IfOk result (λ halves. (arc_value halves.1 ≡ arc_value halves.0)
-        × IsSeated (arc_value halves.0).shared.table_id (vec_len (arc_value halves.0).shared.key.live)
+        × IsSeated (arc_value halves.0).shared.table_id
+        (vec_len (arc_value halves.0).shared.key.live)
         (vec_len key.now.live) key.now.live.items key.now.marks.items halves.2 halves.3) }
 {
     let (table, mut seat) = new_table::<M>(alloc, key)?;
@@ -123,7 +126,8 @@ fn new_table<M: Method>(
     Ok((table, seat))
 }
 
-// For Zigzag: makes the bits that name the array of each cell without its live word. At first that is the second array.
+// For Zigzag: makes the bits that name the array of each cell without its live word. At first that
+// is the second array.
 fn away_marks<M: Method>(alloc: Global, marks: &[u64]) -> Result<Vec<u64>, AllocError>
     ensures { IfOk result (λ away. M.KIND ≡ Zigzag → away.items ≡ marks.now) }
 {
@@ -148,8 +152,8 @@ fn table_words(alloc: Global, words: &[u64], marks: &[u64]) -> Result<Vec<u64>, 
     Ok(all)
 }
 
-/// Lets the seats of one pair meet. The taken cells are then known to be those that were marked, and each seat knows if a
-/// round is open.
+/// Lets the seats of one pair meet. The taken cells are then known to be those that were marked,
+/// and each seat knows if a round is open.
 pub fn meet<M: Method>(front: &mut Front<M>, back: &mut Back<M>)
     requires { front.old.pair ≡ back.old.pair }
     ensures rounds { Agree front.new.rounds (snapshots back.new) }

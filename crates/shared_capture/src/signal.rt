@@ -1,9 +1,12 @@
-//! A signal from one thread to another: numbers in one word, each greater than those before it. The checkpointer sends the
-//! ticks of open images to the log writer. The log writer sends the mutator a 1 once the log is down.
+//! A signal from one thread to another: numbers in one word, each greater than those before it. The
+//! checkpointer sends the ticks of open images to the log writer. The log writer sends the mutator
+//! a 1 once the log is down.
 ghost use Rattle.std.specs.Prelude.{◌≡◌, ◌<◌, ◌≤◌, ◌++◌, ◌∷◌, [], ℕ, Some, slice_get, IfOk, IfErr};
 ghost use Rattle.std.specs.Arc.{arc_value};
 ghost use Rattle.shared_capture.specs.declared.signal.SignalView.TheVariants.{Spent, Both};
-ghost use Rattle.shared_capture.specs.SignalWord.{SignalState, IsOut, IsIn, IsBoth, AreStored, Kept, stored_of, loaded_of, stored_next, loaded_next, met, out_part, in_part, paired};
+ghost use Rattle.shared_capture.specs.SignalWord.{SignalState, IsOut, IsIn, IsBoth, AreStored};
+ghost use Rattle.shared_capture.specs.SignalWord.{Kept, stored_of, loaded_of, stored_next};
+ghost use Rattle.shared_capture.specs.SignalWord.{loaded_next, met, out_part, in_part, paired};
 
 use atomic_table::{Join, Play, Seat, Shared, Split, Table, TableRule};
 use std::alloc::{AllocError, Global};
@@ -11,8 +14,8 @@ use std::marker::Model;
 use std::sync::Arc;
 use world_actions::Refusal;
 
-/// The knowledge of a seat at the word: the numbers that it stored, those that it loaded, or both. No value of this type is
-/// made. Contracts read its arrays as lists of any length.
+/// The knowledge of a seat at the word: the numbers that it stored, those that it loaded, or both.
+/// No value of this type is made. Contracts read its arrays as lists of any length.
 pub enum SignalView {
     Spent,
     Out([u64; 0]),
@@ -20,7 +23,8 @@ pub enum SignalView {
     Both([u64; 0], [u64; 0]),
 }
 
-/// The rule of the word: it is the last number that was stored, or 0. Each loaded number was stored, or is 0.
+/// The rule of the word: it is the last number that was stored, or 0. Each loaded number was
+/// stored, or is 0.
 pub struct SignalRule;
 
 impl TableRule<(), SignalView, ()> for SignalRule {
@@ -78,7 +82,8 @@ type SignalTable = Table<(), SignalView, (), SignalRule, Global>;
 
 type SignalSeat = Seat<(), SignalView>;
 
-/// Stores the numbers: ticks of images that are open, or 1 for a log that is down. Contracts see its pair, and the numbers.
+/// Stores the numbers: ticks of images that are open, or 1 for a log that is down. Contracts see
+/// its pair, and the numbers.
 #[derive(Drop)]
 pub struct SignalOut {
     table: Arc<SignalTable, Global>,
@@ -90,7 +95,8 @@ impl Model for SignalOut {
 
     ghost view = { λ c. record { pair = c.seat.table_id; ticks = stored_of c.seat.me.0 } };
 
-    ghost invariant = { λ c. IsOut (arc_value c.table).shared.table_id (stored_of c.seat.me.0) c.seat };
+    ghost invariant = { λ c.
+        IsOut (arc_value c.table).shared.table_id (stored_of c.seat.me.0) c.seat };
 }
 
 /// Loads the newest of these numbers. Contracts see its pair, and the numbers that it loaded.
@@ -105,19 +111,22 @@ impl Model for SignalIn {
 
     ghost view = { λ c. record { pair = c.seat.table_id; ticks = loaded_of c.seat.me.0 } };
 
-    ghost invariant = { λ c. IsIn (arc_value c.table).shared.table_id (loaded_of c.seat.me.0) c.seat };
+    ghost invariant = { λ c.
+        IsIn (arc_value c.table).shared.table_id (loaded_of c.seat.me.0) c.seat };
 }
 
 /// Makes two seats at a new word. Nothing was stored in it or loaded from it.
 pub fn signal_pair(alloc: Global) -> Result<(SignalOut, SignalIn), Refusal>
-    ensures ok { IfOk result (λ pair. (pair.0.pair ≡ pair.1.pair) × (pair.0.ticks ≡ []) × (pair.1.ticks ≡ [])) }
+    ensures ok { IfOk result (λ pair. (pair.0.pair ≡ pair.1.pair)
+        × (pair.0.ticks ≡ []) × (pair.1.ticks ≡ [])) }
     ensures err { IfErr result (λ refusal. refusal ≡ Refusal.NoMemory) }
 {
     Ok(seats(alloc)?)
 }
 
 fn seats(alloc: Global) -> Result<(SignalOut, SignalIn), AllocError>
-    ensures { IfOk result (λ pair. (pair.0.pair ≡ pair.1.pair) × (pair.0.ticks ≡ []) × (pair.1.ticks ≡ [])) }
+    ensures { IfOk result (λ pair. (pair.0.pair ≡ pair.1.pair)
+        × (pair.0.ticks ≡ []) × (pair.1.ticks ≡ [])) }
 {
     let (table, mut seat) = Table::of_words(alloc, &[0], &())?;
     let other = parted(&table.shared, &mut seat);
@@ -138,7 +147,8 @@ impl SignalOut {
     /// Stores a number, which is greater than those before it.
     pub fn publish(&mut self, tick: u64)
         requires some { 1 ≤ tick }
-        requires newer { (i earlier : ℕ) → slice_get self.old.ticks i ≡ Some earlier → earlier < tick }
+        requires newer { (i earlier : ℕ)
+            → slice_get self.old.ticks i ≡ Some earlier → earlier < tick }
         ensures { self.new ≡ record self.old { ticks = self.old.ticks ++ tick ∷ [] } }
     {
         self.table.shared.store::<Publish>(&mut self.seat, 0, tick);
@@ -154,7 +164,8 @@ impl SignalIn {
     }
 }
 
-/// Lets the seats of one pair meet. Each loaded number other than 0 is then known to have been stored.
+/// Lets the seats of one pair meet. Each loaded number other than 0 is then known to
+/// have been stored.
 pub fn meet_signal(out: &mut SignalOut, from: &mut SignalIn)
     requires { out.old.pair ≡ from.old.pair }
     ensures same { (out.new ≡ out.old) × (from.new ≡ from.old) }
@@ -168,7 +179,8 @@ type SignalWord = Shared<(), SignalView, (), SignalRule>;
 // Parts a seat that knows both, and returns the one that loads.
 fn parted(word: &SignalWord, seat: &mut SignalSeat) -> SignalSeat
     requires word { word.now.table_id.words ≡ 1 }
-    requires seat { IsBoth word.now.table_id (stored_of seat.old.me.0) (loaded_of seat.old.me.0) seat.old }
+    requires seat { IsBoth word.now.table_id (stored_of seat.old.me.0)
+        (loaded_of seat.old.me.0) seat.old }
     ensures out { IsOut word.now.table_id (stored_of seat.old.me.0) seat.new }
     ensures from { IsIn word.now.table_id (loaded_of seat.old.me.0) result }
 {

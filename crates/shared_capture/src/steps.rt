@@ -1,5 +1,6 @@
 //! The single steps of the two seats, each of which loads, stores or swaps one word of the table.
-ghost use Rattle.std.specs.Prelude.{◌≡◌, ◌/◌, ◌%◌, ◌<◌, true, false, vec_len, length, slice_get, slice_set, Some};
+ghost use Rattle.std.specs.Prelude.{◌≡◌, ◌/◌, ◌%◌, ◌<◌, true, false, vec_len, length, slice_get};
+ghost use Rattle.std.specs.Prelude.{slice_set, Some};
 ghost use Rattle.world_actions.specs.World.{IsWord};
 ghost use Rattle.capture_core.specs.Taken.{IsTakenWord};
 ghost use Rattle.capture_core.specs.declared.taker.Taken.{Taken};
@@ -8,9 +9,12 @@ ghost use Rattle.packed_marks.specs.Marks.{IsPacked};
 ghost use Rattle.shared_capture.specs.declared.method.Kind.TheVariants.{Zigzag};
 ghost use Rattle.shared_capture.specs.Methods.{write_side, take_side, is_word};
 ghost use Rattle.shared_capture.specs.Table.{HasCells};
-ghost use Rattle.shared_capture.specs.Steps.{front_of, back_of, after_write, after_load, after_mark, after_open, after_look, after_fetch, after_take, after_known, after_finish};
+ghost use Rattle.shared_capture.specs.Steps.{front_of, back_of, after_write, after_load};
+ghost use Rattle.shared_capture.specs.Steps.{after_mark, after_open, after_look, after_fetch};
+ghost use Rattle.shared_capture.specs.Steps.{after_take, after_known, after_finish};
 ghost use Rattle.shared_capture.specs.Meeting.{Met, after_meet, front_met};
-ghost use Rattle.shared_capture.specs.Seats.{FitsCells, IsFront, IsBack, IsPair, IsReady, IsSame, IsFetched};
+ghost use Rattle.shared_capture.specs.Seats.{FitsCells, IsFront, IsBack, IsPair, IsReady, IsSame};
+ghost use Rattle.shared_capture.specs.Seats.{IsFetched};
 
 use crate::method::{Kind, Method};
 use crate::table::{SharedTable, TableSeat, cell, mark_word, row_of};
@@ -24,7 +28,8 @@ use packed_marks::has_bit;
 pub(crate) fn load_phase<M: Method>(table: &SharedTable<M>, seat: &mut TableSeat) -> u64
     requires table { HasCells (vec_len table.now.key.live) table.now.table_id }
     requires seat { IsFront table.now.table_id (front_of seat.old.me.0) seat.old }
-    ensures seat { IsFront table.now.table_id (after_load result (front_of seat.old.me.0)) seat.new }
+    ensures seat { IsFront table.now.table_id
+        (after_load result (front_of seat.old.me.0)) seat.new }
     ensures known { (front_of seat.old.me.0).closed ≡ true → result ≡ 0 }
 {
     table.load::<LoadPhase>(seat, 0)
@@ -44,7 +49,8 @@ pub(crate) fn store_value<M: Method>(
     requires seat { let f = front_of seat.old.me.0 in
         IsFront table.now.table_id f seat.old × FitsCells cells f
         × (second ≡ write_side M.KIND f.current (marked f.marks i)) }
-    ensures { IsFront table.now.table_id (after_write i second value (front_of seat.old.me.0)) seat.new }
+    ensures { IsFront table.now.table_id
+        (after_write i second value (front_of seat.old.me.0)) seat.new }
 {
     table.store::<StoreValue>(seat, cell(cells, second, i), value);
 }
@@ -73,7 +79,8 @@ pub(crate) fn store_phase<M: Method>(table: &SharedTable<M>, seat: &mut TableSea
     requires seat { let f = front_of seat.old.me.0 in
         IsFront table.now.table_id f seat.old × (f.closed ≡ true)
         × IsReady M.KIND (vec_len table.now.key.live) f }
-    ensures { IsFront table.now.table_id (after_open M.KIND tick (front_of seat.old.me.0)) seat.new }
+    ensures { IsFront table.now.table_id
+        (after_open M.KIND tick (front_of seat.old.me.0)) seat.new }
 {
     table.store::<StorePhase<M>>(seat, 0, tick);
 }
@@ -124,14 +131,15 @@ pub(crate) fn load_value<M: Method>(
     requires word { let b = back_of seat.old.me.0 in
         (i / 64 < length b.marks) × (is_word M.KIND (marked b.marks i) ≡ true)
         × (second ≡ take_side M.KIND b.current (marked b.marks i)) }
-    ensures seat { IsBack table.now.table_id (after_take i result (back_of seat.old.me.0)) seat.new }
+    ensures seat { IsBack table.now.table_id
+        (after_take i result (back_of seat.old.me.0)) seat.new }
     ensures limit { IsWord result }
 {
     table.load::<LoadValue>(seat, cell(cells, second, i))
 }
 
-/// Returns the mark word of the next cell of the round in work. `mark` is that word, unless the cell is the first of its
-/// word.
+/// Returns the mark word of the next cell of the round in work. `mark` is that word, unless the
+/// cell is the first of its word.
 pub(crate) fn mark_for<M: Method>(
     table: &SharedTable<M>,
     seat: &mut TableSeat,
@@ -172,7 +180,8 @@ pub(crate) fn take_known<M: Method>(
         × (b.current ≡ second) }
     requires known { IsSame M.KIND i (back_of seat.old.me.0) }
     requires mark { slice_get (back_of seat.old.me.0).marks (i / 64) ≡ Some mark }
-    ensures seat { IsBack table.now.table_id (after_known i result (back_of seat.old.me.0)) seat.new }
+    ensures seat { IsBack table.now.table_id
+        (after_known i result (back_of seat.old.me.0)) seat.new }
     ensures same { result ≡ Taken.Same
         → is_word M.KIND (marked (back_of seat.old.me.0).marks i) ≡ false }
     ensures limit { IsTakenWord result }
@@ -215,7 +224,8 @@ pub(crate) fn meet<M: Method>(
     requires table { HasCells (vec_len table.now.key.live) table.now.table_id }
     requires front { IsFront table.now.table_id (front_of front.old.me.0) front.old }
     requires back { IsBack table.now.table_id (back_of back.old.me.0) back.old }
-    ensures front { IsFront table.now.table_id (front_met result (front_of front.old.me.0)) front.new }
+    ensures front { IsFront table.now.table_id
+        (front_met result (front_of front.old.me.0)) front.new }
     ensures back { IsBack table.now.table_id (after_meet result (back_of back.old.me.0)) back.new }
     ensures met { Met M.KIND result (front_of front.old.me.0)
         (after_meet result (back_of back.old.me.0)) }

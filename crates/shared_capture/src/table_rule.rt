@@ -2,7 +2,8 @@
 ghost use Rattle.std.specs.Prelude.{vec_len};
 ghost use Rattle.shared_capture.specs.Start.{opening_pair};
 ghost use Rattle.shared_capture.specs.Rule.{Kept};
-ghost use Rattle.shared_capture.specs.Steps.{phase_loaded, value_stored, mark_stored, phase_stored, looked, mark_fetched, value_loaded, finished};
+ghost use Rattle.shared_capture.specs.Steps.{phase_loaded, value_stored, mark_stored, phase_stored};
+ghost use Rattle.shared_capture.specs.Steps.{looked, mark_fetched, value_loaded, finished};
 ghost use Rattle.shared_capture.specs.Meeting.{met, front_part, back_part, paired};
 ghost use Rattle.shared_capture.specs.declared.view.View.TheVariants.{Spent};
 

@@ -1,14 +1,17 @@
 -- The lines of a script: how each is spelled, and what a line means.
-use Rattle.std.specs.Prelude.{ℕ, ◌+◌, ◌/◌, ◌%◌, ◌<◌, ◌≤◌, nat_lt, if◌then◌else◌, List, [], ◌∷◌, ◌++◌, Option, decimal, codes}
+use Rattle.std.specs.Prelude.{ℕ, ◌+◌, ◌/◌, ◌%◌, ◌<◌, ◌≤◌, nat_lt, if◌then◌else◌, List, [], ◌∷◌}
+use Rattle.std.specs.Prelude.{◌++◌, Option, decimal, codes}
 use Rattle.world_actions.specs.declared.world.TheConstants.{CELLS}
 use Rattle.line_grammar.specs.Reading.{IsReading}
 use Rattle.line_grammar.specs.Command.{spelling, IsInBounds}
 use Rattle.disk_model.specs.declared.leaving.Leaving.TheVariants.{Lose, Keep, Fill}
 use Rattle.world_core.specs.declared.moves.Fate.TheVariants.{Done, Failed}
 use Rattle.steps.specs.declared.line.Method.{Method}
-use Rattle.steps.specs.declared.line.Method.TheVariants.{Plain, Zigzag, PingPong, ZigzagShared, PingPongShared}
+use Rattle.steps.specs.declared.line.Method.TheVariants.{Plain, Zigzag, PingPong, ZigzagShared}
+use Rattle.steps.specs.declared.line.Method.TheVariants.{PingPongShared}
 use Rattle.steps.specs.declared.line.Line.{Line}
-use Rattle.steps.specs.declared.line.Line.TheVariants.{Open, Command, Mark, Image, Log, Cover, Images, Logs, Crash, World}
+use Rattle.steps.specs.declared.line.Line.TheVariants.{Open, Command, Mark, Image, Log, Cover}
+use Rattle.steps.specs.declared.line.Line.TheVariants.{Images, Logs, Crash, World}
 
 -- the word of a method
 abbrev pub method_word : Method → List ℕ
@@ -54,8 +57,8 @@ LineIsInBounds line = Unit {0}
 abbrev pub LineMeans : List ℕ → Option Line → Type 0
 LineMeans = IsReading line_spelling LineIsInBounds
 
--- A line that has no number and isn't a client's. `IsLongWord` has those of many steps and the crashes, and `IsWord` has
--- all.
+-- A line that has no number and isn't a client's. `IsLongWord` has those of many steps and the
+-- crashes, and `IsWord` has all.
 abbrev pub IsLongWord : Line → Type 0
 IsLongWord (Images fate) = Unit {0}
 IsLongWord (Logs fate) = Unit {0}

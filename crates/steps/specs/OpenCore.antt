@@ -11,7 +11,8 @@ use Rattle.steps.specs.declared.line.Method.TheVariants as method
 use Rattle.steps.specs.declared.line.Line.{Line}
 use Rattle.steps.specs.declared.line.Line.TheVariants as line
 use Rattle.steps.specs.declared.open_core.OpenCore.{OpenCore}
-use Rattle.steps.specs.declared.open_core.OpenCore.TheVariants.{Plain, Zigzag, PingPong, ZigzagShared, PingPongShared}
+use Rattle.steps.specs.declared.open_core.OpenCore.TheVariants.{Plain, Zigzag, PingPong}
+use Rattle.steps.specs.declared.open_core.OpenCore.TheVariants.{ZigzagShared, PingPongShared}
 use Rattle.steps.specs.Played.{Moves, Runs}
 
 -- the state of the core, whatever its store is
@@ -41,12 +42,14 @@ open_state_of core = record { method = method_of core; state = state_of core }
 -- the line leads a core from the one state to the other and prints this, whatever its past is
 pub record Leads (line : Line) (old : State) (said : List ℕ) (new : State) : Type 0 where
   pub on : (past : Past) → IsCoreAt past old
-      → (next : Past) × IsCoreAt next new × Runs line (record { past = past; state = old }) said (record { past = next; state = new })
+      → (next : Past) × IsCoreAt next new
+      × Runs line (record { past = past; state = old }) said (record { past = next; state = new })
 
 -- the move leads a core from the one state to the other with this answer, whatever its past is
 pub record MovesOn (old : State) (asked : Move) (given : Answer) (new : State) : Type 0 where
   pub on : (past : Past) → IsCoreAt past old
-      → Moves (record { past = past; state = old }) asked given (record { past = past_after past asked given; state = new })
+      → Moves (record { past = past; state = old }) asked given
+      (record { past = past_after past asked given; state = new })
 
 -- the line opens no core
 abbrev pub IsNoOpening : Line → Type 0

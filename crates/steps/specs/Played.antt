@@ -20,7 +20,8 @@ use Rattle.world_core.specs.Facts.{IsCoreAt}
 use Rattle.world_core.specs.Headline.{Answers}
 use Rattle.world_core.specs.Repeating.{AreLeft, RepeatsImages, RepeatsLog, RunsStart}
 use Rattle.steps.specs.declared.line.Line.{Line}
-use Rattle.steps.specs.declared.line.Line.TheVariants.{Open, Command, Mark, Image, Log, Cover, Images, Logs, Crash, World}
+use Rattle.steps.specs.declared.line.Line.TheVariants.{Open, Command, Mark, Image, Log, Cover}
+use Rattle.steps.specs.declared.line.Line.TheVariants.{Images, Logs, Crash, World}
 use Rattle.steps.specs.Text.{answer_text}
 
 -- an open core, and its past: what is known from its moves and answers
@@ -74,8 +75,12 @@ Runs Image from text to = Plays (move.Image Done) from text to
 Runs Log from text to = Plays (move.Log Done) from text to
 Runs Cover from text to = Plays (move.Cover from.past.standing.newest) from text to
 Runs (Images fate) from text to =
-    (reported : ImageAnswer) × RepeatsImages fate from.past from.state reported to.past to.state × (text ≡ answer_text (answer.Image reported))
+    (reported : ImageAnswer) × RepeatsImages fate from.past from.state reported to.past to.state
+    × (text ≡ answer_text (answer.Image reported))
 Runs (Logs fate) from text to =
-    (reported : LogAnswer) × RepeatsLog fate from.past from.state reported to.past to.state × (text ≡ answer_text (answer.Log reported))
-Runs (Crash leaving) from text to = (given : Answer) × Crashes leaving from given to × (text ≡ answer_text given)
-Runs World from text to = (to ≡ from) × (text ≡ join_with_byte 32 (map decimal from.state.content.live))
+    (reported : LogAnswer) × RepeatsLog fate from.past from.state reported to.past to.state
+    × (text ≡ answer_text (answer.Log reported))
+Runs (Crash leaving) from text to =
+    (given : Answer) × Crashes leaving from given to × (text ≡ answer_text given)
+Runs World from text to =
+    (to ≡ from) × (text ≡ join_with_byte 32 (map decimal from.state.content.live))

@@ -20,14 +20,19 @@ Stand (Some opened) = IsCoreAt opened.played.past opened.played.state
 
 -- the open core was opened and played so
 pub record IsAt (opened : Option Opened) (core : Option OpenState) : Type 0 where
-  pub state : core ≡ option_map (λ (o : Opened). record { method = o.method; state = o.played.state }) opened
+  pub state : core
+      ≡ option_map (λ (o : Opened). record { method = o.method; state = o.played.state }) opened
   pub stands : Stand opened
 
--- a line with this meaning leads from the one open core to the other and prints this, however the first was played
-pub record LineLeads (meaning : Option Line) (old : Option OpenState) (said : List ℕ) (new : Option OpenState) : Type 0 where
-  pub on : (from : Option Opened) → IsAt from old → (to : Option Opened) × IsAt to new × LineRuns meaning from said to
+-- a line with this meaning leads from the one open core to the other and prints this, however the
+-- first was played
+pub record LineLeads (meaning : Option Line) (old : Option OpenState) (said : List ℕ)
+    (new : Option OpenState) : Type 0 where
+  pub on : (from : Option Opened) → IsAt from old
+      → (to : Option Opened) × IsAt to new × LineRuns meaning from said to
 
--- the lines that ended are answered, the line that has not is kept, and these bytes are left of the input
+-- the lines that ended are answered, the line that has not is kept, and these bytes are
+-- left of the input
 pub record Stands (input : List ℕ) (script : ScriptState) (left written : List ℕ) : Type 0 where
   pub answered : List (List ℕ)
   pub line : List ℕ
@@ -38,14 +43,20 @@ pub record Stands (input : List ℕ) (script : ScriptState) (left written : List
   pub unbroken : HasNoNewline line
   pub kept_is : script.kept ≡ kept_of line
 
--- the bytes lead from one script to another and write this, whatever came before them and is left after them
-pub record LeadsOn (old : ScriptState) (bytes : List ℕ) (new : ScriptState) (written : List ℕ) : Type 0 where
-  pub on : (input left prior : List ℕ) → Stands input old (bytes ++ left) prior → Stands input new left (prior ++ written)
+-- the bytes lead from one script to another and write this, whatever came before them and
+-- is left after them
+pub record LeadsOn (old : ScriptState) (bytes : List ℕ) (new : ScriptState)
+    (written : List ℕ) : Type 0 where
+  pub on : (input left prior : List ℕ) → Stands input old (bytes ++ left) prior
+      → Stands input new left (prior ++ written)
 
 -- with this written at the end of the input, the script's text is whole
 pub record Completes (script : ScriptState) (written : List ℕ) : Type 0 where
-  pub on : (input prior : List ℕ) → Stands input script [] prior → IsScriptText input (prior ++ written)
+  pub on : (input prior : List ℕ) → Stands input script [] prior
+      → IsScriptText input (prior ++ written)
 
 -- a fault came after this was written, with these bytes left
-pub record BreaksOff (script : ScriptState) (left written : List ℕ) (refusal : Refusal) : Type 0 where
-  pub on : (input prior : List ℕ) → Stands input script left prior → IsCutOff input (prior ++ written) refusal
+pub record BreaksOff (script : ScriptState) (left written : List ℕ)
+    (refusal : Refusal) : Type 0 where
+  pub on : (input prior : List ℕ) → Stands input script left prior
+      → IsCutOff input (prior ++ written) refusal

@@ -1,4 +1,5 @@
-ghost use Rattle.std.specs.Prelude.{◌≡◌, ◌≤◌, ◌<◌, ℕ, List, ◌++◌, slice_index, decimal, OnOk, IfOk, IfErr};
+ghost use Rattle.std.specs.Prelude.{◌≡◌, ◌≤◌, ◌<◌, ℕ, List, ◌++◌, slice_index, decimal, OnOk, IfOk};
+ghost use Rattle.std.specs.Prelude.{IfErr};
 ghost use Rattle.world_actions.specs.declared.world.TheConstants.{CELLS};
 ghost use Rattle.world_core.specs.Past.{Past};
 ghost use Rattle.world_core.specs.Facts.{IsCoreAt};
@@ -19,7 +20,8 @@ use world_core::{Answer, Core, Fate, Move};
 /// Makes a fresh core, and runs its start.
 pub fn open_core<C: Capture>(alloc: Global, cells: u32) -> Result<Core<C>, Refusal>
     requires { (1 ≤ cells) × (cells ≤ CELLS) }
-    ensures opens { IfOk result (λ core. (past : Past) × IsCoreAt past core × Opens cells (record { past = past; state = core })) }
+    ensures opens { IfOk result (λ core. (past : Past) × IsCoreAt past core
+        × Opens cells (record { past = past; state = core })) }
     ensures memory { IfErr result (λ refusal. refusal ≡ Refusal.NoMemory) }
 {
     let mut core = Core::fresh(alloc, cells)?;
@@ -123,9 +125,11 @@ fn move_for(command: Command) -> Move
     }
 }
 
-// Makes a crash that leaves each file as `leaving` says. Unless the crash is refused, it runs the start after it.
+// Makes a crash that leaves each file as `leaving` says. Unless the crash is refused, it runs
+// the start after it.
 fn crash<C: Capture>(core: &mut Core<C>, leaving: Leaving) -> Result<Answer, Refusal>
-    ensures leads { IfOk result (λ given. Leads (Line.Crash leaving) core.old (answer_text given) core.new) }
+    ensures leads { IfOk result (λ given.
+        Leads (Line.Crash leaving) core.old (answer_text given) core.new) }
     ensures memory { IfErr result (λ refusal. refusal ≡ Refusal.NoMemory) }
 {
     let left = core.remains(leaving)?;

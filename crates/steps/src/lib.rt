@@ -1,7 +1,8 @@
 //! The script that runs a world in memory, line by line.
 //!
-//! `run_script` reads lines, opens worlds, makes the moves that the lines ask for, and writes one answer line for each. Its
-//! contract gives every byte that it writes, even if the reader or the writer fails or memory runs out.
+//! `run_script` reads lines, opens worlds, makes the moves that the lines ask for, and writes one
+//! answer line for each. Its contract gives every byte that it writes, even if the reader or the
+//! writer fails or memory runs out.
 #![tactic(auto)]
 
 mod core_lines;

@@ -33,7 +33,8 @@ pub enum Line {
     Log,
     /// `cover`: the records that the newest image has leave the queue.
     Cover,
-    /// `image*`, or `fail image` whose calls fail: steps of the image keeper until it is idle or down.
+    /// `image*`, or `fail image` whose calls fail: steps of the image keeper until it
+    /// is idle or down.
     Images(Fate),
     /// `log*`, or `fail log` whose calls fail: steps of the log keeper until it is idle or down.
     Logs(Fate),
@@ -43,11 +44,13 @@ pub enum Line {
     World,
 }
 
-ghost use Rattle.std.specs.Prelude.{◌≡◌, ◌≢◌, ◌<◌, ℕ, List, ◌∷◌, ◌++◌, codes, IfSome, IfNone, Option};
+ghost use Rattle.std.specs.Prelude.{◌≡◌, ◌≢◌, ◌<◌, ℕ, List, ◌∷◌, ◌++◌, codes, IfSome, IfNone};
+ghost use Rattle.std.specs.Prelude.{Option};
 ghost use Rattle.line_grammar.specs.Reading.{IsReading};
 ghost use Rattle.steps.specs.declared.line.Method.{Method};
 ghost use Rattle.steps.specs.declared.line.Line.{Line};
-ghost use Rattle.steps.specs.Line.{LineMeans, IsWord, IsLongWord, line_spelling, method_word, hex_digit, hex_text};
+ghost use Rattle.steps.specs.Line.{LineMeans, IsWord, IsLongWord, line_spelling, method_word};
+ghost use Rattle.steps.specs.Line.{hex_digit, hex_text};
 
 /// Reads a line, without its newline. Returns `None` if it isn't of the grammar.
 pub fn read_line(line: &[u8]) -> Option<Line>
@@ -87,7 +90,8 @@ fn read_open(words: &[u8]) -> Option<Line>
 // Reads the method at the front. Returns it with the bytes after the space after it.
 fn read_method(words: &[u8]) -> Option<(Method, &[u8])>
     ensures found { IfSome result (λ found. words.now ≡ method_word found.0 ++ (32 ∷ found.1.now)) }
-    ensures none { IfNone result ((method : Method) (rest : List ℕ) → words.now ≢ method_word method ++ (32 ∷ rest)) }
+    ensures none { IfNone result
+        ((method : Method) (rest : List ℕ) → words.now ≢ method_word method ++ (32 ∷ rest)) }
 {
     if let Some(rest) = after(words, b"plain ") {
         return Some((Method::Plain, rest));

@@ -43,7 +43,8 @@ impl OpenCore {
     ghost use Rattle.steps.specs.Played.{Opens};
     ghost use Rattle.steps.specs.OpenCore.{state_of, method_of, Leads, IsNoOpening};
 
-    /// Makes a fresh core that captures by this method, and runs its start. Its only refusal is `NoMemory`.
+    /// Makes a fresh core that captures by this method, and runs its start. Its only
+    /// refusal is `NoMemory`.
     pub fn fresh(alloc: Global, method: Method, cells: u32) -> Result<Self, Refusal>
         requires { (1 ≤ cells) × (cells ≤ CELLS) }
         ensures opens { IfOk result (λ core. (past : Past) × IsCoreAt past (state_of core)

@@ -1,4 +1,5 @@
-ghost use Rattle.std.specs.Prelude.{◌≡◌, ◌++◌, ◌∷◌, ℕ, List, [], Option, OnOk, OnErr, IfOk, IfErr, IfSome, None, Some, option_map};
+ghost use Rattle.std.specs.Prelude.{◌≡◌, ◌++◌, ◌∷◌, ℕ, List, [], Option, OnOk, OnErr, IfOk, IfErr};
+ghost use Rattle.std.specs.Prelude.{IfSome, None, Some, option_map};
 ghost use Rattle.std.specs.Io.KnownBytes.{Appends, IsAtEnd};
 ghost use Rattle.steps.specs.declared.line.Line.{Line};
 ghost use Rattle.steps.specs.Line.{LineMeans, LineIsInBounds};
@@ -19,17 +20,19 @@ use std::marker::Model;
 use world_actions::Refusal;
 use world_core::Answer;
 
-/// How many bytes are read at once. Answers of at least so many bytes are written before their piece is over.
+/// How many bytes are read at once. Answers of at least so many bytes are written before
+/// their piece is over.
 const PIECE_BYTES: usize = 4096;
 
-/// Runs the script that the reader gives, and writes its text and nothing else. `NoMemory` and `Device` end it. The written
-/// answers are then whole, except that the last one is cut if the writer failed in it. The answers to bytes that were read
-/// at once are written together.
+/// Runs the script that the reader gives, and writes its text and nothing else. `NoMemory` and
+/// `Device` end it. The written answers are then whole, except that the last one is cut if the
+/// writer failed in it. The answers to bytes that were read at once are written together.
 pub fn run_script<R: Read, W: Write>(alloc: Global, r: &mut R, w: &mut W) -> Result<(), Refusal>
     ensures whole { OnOk result (IfSome (R.remaining r.old) (λ input. (text : List ℕ)
         × IsScriptText input text × Appends (W.contents w.old) (W.contents w.new) text)) }
     ensures end { OnOk result (IsAtEnd (R.remaining r.new)) }
-    ensures cut_off { IfErr result (λ refusal. IfSome (R.remaining r.old) (λ input. (written : List ℕ)
+    ensures cut_off { IfErr result (λ refusal.
+        IfSome (R.remaining r.old) (λ input. (written : List ℕ)
         × IsCutOff input written refusal × Appends (W.contents w.old) (W.contents w.new) written)) }
     ensures fault { IfErr result IsFault }
 {
@@ -52,7 +55,8 @@ pub fn script_answers_each_line()
     ensures { (input text : List ℕ) → IsScriptText input text → AnswersEach input text }
 {}
 
-/// The open core, the bytes that are kept of the line that has not ended, and a buffer for the answer to a line.
+/// The open core, the bytes that are kept of the line that has not ended, and a buffer for the
+/// answer to a line.
 #[derive(Drop)]
 struct Script {
     alloc: Global,
@@ -68,7 +72,10 @@ impl Model for Script {
 
     ghost Value = { ScriptState };
 
-    ghost view = { λ script. record { core = option_map open_state_of script.core; kept = script.line } };
+    ghost view = { λ script. record {
+      core = option_map open_state_of script.core;
+      kept = script.line;
+    } };
 }
 
 impl Script {
@@ -85,7 +92,8 @@ impl Script {
         })
     }
 
-    // Goes through the next bytes of the input, and answers each line that ends in them. No answer waits after them.
+    // Goes through the next bytes of the input, and answers each line that ends in them. No answer
+    // waits after them.
     fn take_piece<W: Write>(
         &mut self,
         piece: &[u8],
@@ -94,7 +102,8 @@ impl Script {
     ) -> Result<(), Refusal>
         requires { text.old.items ≡ [] }
         ensures done { OnOk result ((text.new.items ≡ []) × (written : List ℕ)
-            × Appends (W.contents w.old) (W.contents w.new) written × LeadsOn self.old piece.now self.new written) }
+            × Appends (W.contents w.old) (W.contents w.new) written
+            × LeadsOn self.old piece.now self.new written) }
         ensures fault { IfErr result (λ refusal. IsFault refusal
             × (written : List ℕ) × Appends (W.contents w.old) (W.contents w.new) written
             × ((left : List ℕ) → BreaksOff self.old (piece.now ++ left) written refusal)) }
@@ -130,7 +139,8 @@ impl Script {
     // Answers the line that is left at the end of the input, if there is one.
     fn finish<W: Write>(&mut self, text: &mut Vec<u8>, w: &mut W) -> Result<(), Refusal>
         requires { text.old.items ≡ [] }
-        ensures done { OnOk result ((written : List ℕ) × Appends (W.contents w.old) (W.contents w.new) written
+        ensures done { OnOk result
+            ((written : List ℕ) × Appends (W.contents w.old) (W.contents w.new) written
             × Completes self.old written) }
         ensures fault { IfErr result (λ refusal. IsFault refusal
             × (written : List ℕ) × Appends (W.contents w.old) (W.contents w.new) written
@@ -144,10 +154,13 @@ impl Script {
         Ok(())
     }
 
-    // Answers the kept line, and keeps nothing of it. If memory runs out, it adds no part of the answer.
+    // Answers the kept line, and keeps nothing of it. If memory runs out, it adds no
+    // part of the answer.
     fn answer_line(&mut self, text: &mut Vec<u8>) -> Result<(), Refusal>
-        ensures done { OnOk result ((meaning : Option Line) × KeptMeans LineMeans self.old.kept meaning
-            × (said : List ℕ) × LineLeads meaning self.old.core said self.new.core × (self.new.kept ≡ [])
+        ensures done { OnOk result
+            ((meaning : Option Line) × KeptMeans LineMeans self.old.kept meaning
+            × (said : List ℕ)
+            × LineLeads meaning self.old.core said self.new.core × (self.new.kept ≡ [])
             × (text.new.items ≡ text.old.items ++ (said ++ 10 ∷ []))) }
         ensures same { OnErr result (text.new.items ≡ text.old.items) }
         ensures memory { IfErr result (λ refusal. refusal ≡ Refusal.NoMemory) }
@@ -164,9 +177,11 @@ impl Script {
 
 // Writes answers, and keeps nothing of them.
 fn write_out<W: Write>(text: &mut Vec<u8>, w: &mut W) -> Result<(), Refusal>
-    ensures whole { OnOk result ((text.new.items ≡ []) × Appends (W.contents w.old) (W.contents w.new) text.old.items) }
+    ensures whole { OnOk result
+        ((text.new.items ≡ []) × Appends (W.contents w.old) (W.contents w.new) text.old.items) }
     ensures fault { IfErr result (λ refusal. (refusal ≡ Refusal.Device)
-        × (front : List ℕ) × IsFront front text.old.items × Appends (W.contents w.old) (W.contents w.new) front) }
+        × (front : List ℕ) × IsFront front text.old.items
+        × Appends (W.contents w.old) (W.contents w.new) front) }
 {
     write_whole(w, text)?;
     text.clear();
@@ -178,7 +193,8 @@ fn write_long<W: Write>(text: &mut Vec<u8>, w: &mut W) -> Result<(), Refusal>
     ensures done { OnOk result ((written : List ℕ) × (text.old.items ≡ written ++ text.new.items)
         × Appends (W.contents w.old) (W.contents w.new) written) }
     ensures fault { IfErr result (λ refusal. (refusal ≡ Refusal.Device)
-        × (front : List ℕ) × IsFront front text.old.items × Appends (W.contents w.old) (W.contents w.new) front) }
+        × (front : List ℕ) × IsFront front text.old.items
+        × Appends (W.contents w.old) (W.contents w.new) front) }
 {
     if text.len() >= PIECE_BYTES {
         write_out(text, w)?;
@@ -204,7 +220,8 @@ fn push_reply(
 ) -> Result<(), Refusal>
     requires { IfSome meaning LineIsInBounds }
     ensures says { OnOk result ((said : List ℕ) × (text.new.items ≡ text.old.items ++ said)
-        × LineLeads meaning (option_map open_state_of core.old) said (option_map open_state_of core.new)) }
+        × LineLeads meaning (option_map open_state_of core.old) said
+        (option_map open_state_of core.new)) }
     ensures memory { IfErr result (λ refusal. refusal ≡ Refusal.NoMemory) }
 {
     let Some(line) = meaning else {

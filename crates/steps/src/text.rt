@@ -30,7 +30,8 @@ pub fn push_answer(text: &mut Vec<u8>, answer: Answer) -> Result<(), Refusal>
 }
 
 fn push_image_answer(text: &mut Vec<u8>, given: ImageAnswer) -> Result<(), Refusal>
-    ensures text { OnOk result (text.new.items ≡ text.old.items ++ answer_text (answer.Image given)) }
+    ensures text { OnOk result
+        (text.new.items ≡ text.old.items ++ answer_text (answer.Image given)) }
     ensures memory { IfErr result (λ refusal. refusal ≡ Refusal.NoMemory) }
 {
     match given {

@@ -324,7 +324,8 @@ static MARKED: Session<'static> = Session {
     acked: 3,
 };
 
-// The parts of a world of two cells after its third tick. Its store was marked after the second one.
+// The parts of a world of two cells after its third tick. Its store was marked after
+// the second one.
 fn marked_parts<C: Capture>(rt: &impl Abort, alloc: Global) -> Parts<ModelFile> {
     let mut served = open::<C>(rt, alloc, fresh(rt, alloc, 2), 2);
     play(rt, alloc, &mut served, &MARKED, usize::MAX);

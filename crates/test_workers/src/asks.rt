@@ -14,7 +14,8 @@ use workers::{AskChannel, AwaitedReply, Mutator, Open, Reply};
 /// How many asks the two sessions send.
 const ASKS: u64 = 6;
 
-// Two sessions send three asks each. The first one adds 1, and the second one adds 10. No session is left after that.
+// Two sessions send three asks each. The first one adds 1, and the second one adds 10. No session
+// is left after that.
 fn send_all(rt: &(impl Wait + Abort), alloc: Global, asks: AskChannel) -> [AwaitedReply; 6] {
     let mut asks = asks;
     let mut first = asks.session().expect(rt, "a session");

@@ -1,4 +1,5 @@
-//! Connections by a port and by a socket: each end reads the bytes that the other writes, and a time-out ends a wait.
+//! Connections by a port and by a socket: each end reads the bytes that the other writes, and a
+//! time-out ends a wait.
 use crate::same::same;
 use std::fs::Files;
 use std::io::{self, ErrorKind, Read, Write};

@@ -19,7 +19,8 @@ use world_actions::Refusal;
 
 type File = Fused<ModelFile>;
 
-/// How many calls are made on the second segment's file: four for the switch, and four for the tick after it.
+/// How many calls are made on the second segment's file: four for the switch, and four for
+/// the tick after it.
 const CALLS: u64 = 8;
 
 // Writes the image of the open round, which is of this tick, and opens it.
@@ -87,7 +88,8 @@ fn segment_of(rt: &impl Abort, alloc: Global, bytes: &[u8]) -> Option<(u64, usiz
     }
 }
 
-// The first segment has no tick. The second one begins after the tick of the second image, and has the ticks after it.
+// The first segment has no tick. The second one begins after the tick of the second image, and has
+// the ticks after it.
 fn check_log(rt: &impl Abort, alloc: Global, log: &Log<File>, whole: bool) {
     let first = segment_of(rt, alloc, log.a.inner().durable());
     same(rt, "the first segment", first, Some((0, 0)));

@@ -1,4 +1,5 @@
-//! Sessions whose clients stop taking bytes, at each byte of the answers. Each answered tick is in the files.
+//! Sessions whose clients stop taking bytes, at each byte of the answers. Each answered tick
+//! is in the files.
 use crate::running::{begin, end, only_session};
 use crate::same::same;
 use crate::worlds::{new_files, stands_in};
@@ -43,7 +44,8 @@ impl Write for Client {
     }
 }
 
-// Serves a session on the batches, whose client takes so many bytes. Returns how the session ended, and the taken bytes.
+// Serves a session on the batches, whose client takes so many bytes. Returns how the session ended,
+// and the taken bytes.
 fn play<R: Wait + Abort + Copy>(
     rt: &R,
     alloc: Global,

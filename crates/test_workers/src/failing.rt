@@ -58,7 +58,8 @@ fn is_opened<M: Seats>(alloc: Global, files: FourFiles<BrokenFile>) -> bool {
     is_opened
 }
 
-// Returns the number of the first call on a file that the workers make. The calls before it open the world.
+// Returns the number of the first call on a file that the workers make. The calls before
+// it open the world.
 fn first_call<M: Seats>(rt: &impl Abort, alloc: Global, broken: Broken) -> u64 {
     for call in 1..100 {
         if is_opened::<M>(alloc, broken_files(rt, alloc, broken, call)) {
@@ -110,8 +111,8 @@ fn answered(acked: u64) -> &'static [u8] {
     }
 }
 
-// The expected results of four batches: how many ticks end and are acknowledged, and if the log goes down or else the images
-// do. Exactly one report comes, which is `reported`.
+// The expected results of four batches: how many ticks end and are acknowledged, and if the log
+// goes down or else the images do. Exactly one report comes, which is `reported`.
 #[derive(Clone, Copy)]
 struct Outcome {
     ended: u64,

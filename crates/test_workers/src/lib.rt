@@ -1,8 +1,10 @@
-//! Tests of sessions over a port, of connections by a port and by a socket, and of workers in threads over files in memory.
-//! A round stays open while ticks are answered, and an image gets ticks before the log does. Each call of a file fails in
-//! turn, and crashes are tried once the workers' ends have met. Other tests make the steps of workers in one thread.
+//! Tests of sessions over a port, of connections by a port and by a socket, and of workers in
+//! threads over files in memory. A round stays open while ticks are answered, and an image gets
+//! ticks before the log does. Each call of a file fails in turn, and crashes are tried once the
+//! workers' ends have met. Other tests make the steps of workers in one thread.
 //!
-//! A large value is dropped by a call of `drop`, which is proved much faster than its drop at the end of a scope.
+//! A large value is dropped by a call of `drop`, which is proved much faster than its drop at
+//! the end of a scope.
 #![tactic(auto)]
 
 #[cfg(test)]

@@ -15,8 +15,8 @@ use workers::{AskReceiver, Asker, Open};
 
 type World<M> = Together<M, ModelFile, Open, Open, Open>;
 
-// Recovers from the durable bytes. The first cell has the number of the recovered tick, and no acknowledged tick is lost.
-// Returns the tick and that of the image.
+// Recovers from the durable bytes. The first cell has the number of the recovered tick, and no
+// acknowledged tick is lost. Returns the tick and that of the image.
 fn found<M: Method>(rt: &impl Abort, alloc: Global, world: &World<M>) -> (u64, u64) {
     let (images, log) = (world.checkpointer.images(), world.log_writer.log());
     let (tick, from, word) = stands_in(rt, alloc, images, log);
@@ -64,8 +64,8 @@ fn next_step(at: u64) -> Next {
     }
 }
 
-// Plays a batch at each `every`th of the first 200 steps. Returns the tick and the image's tick that recovery finds at the
-// end.
+// Plays a batch at each `every`th of the first 200 steps. Returns the tick and the image's tick
+// that recovery finds at the end.
 fn try_order<M: Seats>(rt: &(impl Wait + Abort), alloc: Global, every: u64) -> (u64, u64)
     requires { 1 ≤ every }
 {

@@ -82,7 +82,8 @@ fn keep(rt: &impl Abort, lines: &mut Vec<Line>, line: Line)
     }
 }
 
-// Serves a new world of two cells to one client. Checks what is printed, and which world was recovered.
+// Serves a new world of two cells to one client. Checks what is printed, and which
+// world was recovered.
 fn serve_one<M: Seats + Send + 'static, R: Threads + Wait + Clock + Abort + Copy + Send + 'static>(
     rt: &R,
     alloc: Global,

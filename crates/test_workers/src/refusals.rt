@@ -1,4 +1,5 @@
-//! A mutator that may run no batch, because all ticks have ended, the segment of the log is full, or a push was refused.
+//! A mutator that may run no batch, because all ticks have ended, the segment of the log is full,
+//! or a push was refused.
 ghost use Rattle.std.specs.Prelude.{◌≤◌};
 ghost use Rattle.world_ticks.specs.declared.tick.TheConstants.{TICK_MAX};
 
@@ -17,7 +18,8 @@ use workers::{AskReceiver, Asker, ItemReceiver, Mutator, Open, Reply, open};
 use world_actions::Refusal;
 use world_ticks::TICK_MAX;
 
-// A mutator after so many ticks, which takes these asks and opens no round, and the end that pops its items.
+// A mutator after so many ticks, which takes these asks and opens no round, and the end
+// that pops its items.
 fn mutator_at<M: Seats>(
     rt: &(impl Wait + Abort),
     alloc: Global,
@@ -97,7 +99,8 @@ fn try_full_segment<M: Seats>(rt: &(impl Wait + Abort), alloc: Global) {
     drop(asker);
 }
 
-// Nobody pops any more, so the push of the tick is refused: its session gets no answer, and no other batch is run.
+// Nobody pops any more, so the push of the tick is refused: its session gets no answer, and no
+// other batch is run.
 fn try_refused_push<M: Seats>(rt: &(impl Wait + Abort), alloc: Global) {
     let (mut asker, asks) = new_session(rt, alloc);
     let (mut mutator, from) = mutator_at::<M>(rt, alloc, asks, 0);

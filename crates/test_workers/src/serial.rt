@@ -33,7 +33,8 @@ pub struct Serial<M: Method, D: Disk + Drop> {
     pub checkpointer: Checkpointer<M, D, Held>,
 }
 
-// The signals between the workers beside the items: the bell, and the word that says that the log is down.
+// The signals between the workers beside the items: the bell, and the word that says that
+// the log is down.
 #[derive(Drop)]
 struct Signals {
     bell: Sender<()>,
@@ -89,7 +90,8 @@ pub fn begin<M: Method, D: Disk + Drop>(
     opened: Opened<M, D>,
     held: Held,
 ) -> Serial<M, D>
-    requires { IsWhole D.honest D.content opened.front opened.back opened.images opened.log opened.ended }
+    requires { IsWhole D.honest D.content opened.front opened.back opened.images
+        opened.log opened.ended }
     ensures rest { IsAtRest result.log_writer }
     ensures takes { MayTake result.checkpointer }
 {
@@ -107,7 +109,8 @@ fn joined<M: Method, D: Disk + Drop>(
     signals: Signals,
     channel: Channel,
 ) -> Serial<M, D>
-    requires whole { IsWhole D.honest D.content opened.front opened.back opened.images opened.log opened.ended }
+    requires whole { IsWhole D.honest D.content opened.front opened.back opened.images
+        opened.log opened.ended }
     requires to { channel.to.items ≡ Start opened.ended ∷ [] }
     requires pushes { channel.to.refused ≡ false }
     requires from { channel.from.items ≡ Start opened.ended ∷ [] }
@@ -153,7 +156,8 @@ pub fn new_session(rt: &impl Abort, alloc: Global) -> (Asker, AskReceiver) {
     (asks.session().expect(rt, "a session"), asked)
 }
 
-/// Lets a session ask for a batch that adds 1 to the first cell and reads it. The mutator runs it. Its answer comes later.
+/// Lets a session ask for a batch that adds 1 to the first cell and reads it. The mutator runs it.
+/// Its answer comes later.
 pub fn send<M: Method>(
     rt: &(impl Wait + Abort),
     alloc: Global,
@@ -166,7 +170,8 @@ pub fn send<M: Method>(
     awaited
 }
 
-/// Lets a session ask for a batch that adds this to the first cell and reads it. Returns the place of its reply.
+/// Lets a session ask for a batch that adds this to the first cell and reads it. Returns the
+/// place of its reply.
 pub fn ask(rt: &(impl Wait + Abort), alloc: Global, asker: &mut Asker, by: i64) -> AwaitedReply {
     let mut batch = Batch::new(alloc).expect(rt, "a batch");
     batch.push_reserved(Request::Act(Action::Add { cell: 0, by }));

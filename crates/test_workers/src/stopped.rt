@@ -1,4 +1,5 @@
-//! Workers that have ended and met: whatever a crash leaves of their files, it has each answered tick.
+//! Workers that have ended and met: whatever a crash leaves of their files, it has
+//! each answered tick.
 use crate::running::{begin, end};
 use crate::same::same;
 use crate::worlds::{found_in, new_files};
@@ -158,8 +159,8 @@ fn play_sessions<R: Threads + Wait + Abort + Copy + Send + 'static>(
     join_sessions(rt, sessions)
 }
 
-// Runs workers, which make so many steps, in a new world of two cells, and brings their ends together. Also returns how many
-// batches were answered by a tick.
+// Runs workers, which make so many steps, in a new world of two cells, and brings their ends
+// together. Also returns how many batches were answered by a tick.
 fn run<M: Seats + Send + 'static, R: Threads + Wait + Abort + Copy + Send + 'static>(
     rt: &R,
     alloc: Global,
@@ -217,7 +218,8 @@ fn has_first_image<M: Method>(stopped: &StoppedWorkers<M, ModelFile, Cut, Cut, C
     }
 }
 
-// Runs workers whose checkpointer makes so many steps, and checks what they leave. Returns true if no image was opened.
+// Runs workers whose checkpointer makes so many steps, and checks what they leave. Returns true if
+// no image was opened.
 fn try_steps<M: Seats + Send + 'static, R: Threads + Wait + Abort + Copy + Send + 'static>(
     rt: &R,
     alloc: Global,
@@ -235,7 +237,8 @@ fn try_steps<M: Seats + Send + 'static, R: Threads + Wait + Abort + Copy + Send 
     has_first_image
 }
 
-// Leaves a round open after each number of its steps, and counts the runs in which no image was opened.
+// Leaves a round open after each number of its steps, and counts the runs in which no
+// image was opened.
 fn count_open<M: Seats + Send + 'static, R: Threads + Wait + Abort + Copy + Send + 'static>(
     rt: &R,
     alloc: Global,
@@ -248,7 +251,8 @@ fn count_open<M: Seats + Send + 'static, R: Threads + Wait + Abort + Copy + Send
     left_open
 }
 
-// Tries rounds that are run to their end, and rounds that are left open after each number of their steps.
+// Tries rounds that are run to their end, and rounds that are left open after each
+// number of their steps.
 fn try_ends<M: Seats + Send + 'static, R: Threads + Wait + Abort + Copy + Send + 'static>(
     rt: &R,
     alloc: Global,
@@ -268,7 +272,8 @@ fn what_was_answered_is_there_once_the_ends_have_met(rt: HostRuntime) {
     try_ends::<Pong, HostRuntime>(&rt, rt.alloc());
 }
 
-// Each answered tick is acknowledged. Each acknowledged tick is recovered, and each recovered tick has ended.
+// Each answered tick is acknowledged. Each acknowledged tick is recovered, and each
+// recovered tick has ended.
 fn are_between(rt: &impl Abort, answered: u64, acked: u64, stands: u64, ended: u64) {
     assert!(rt;
         answered <= acked && acked <= stands && stands <= ended,

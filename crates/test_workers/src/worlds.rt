@@ -139,7 +139,8 @@ pub fn fused_files(rt: &impl Abort, alloc: Global) -> FourFiles<Fused<ModelFile>
     }
 }
 
-/// The world in these files, recovered and started for its workers, and the tick of the image that it was built from.
+/// The world in these files, recovered and started for its workers, and the tick of the image that
+/// it was built from.
 pub fn open_world<M: Seats, D: Disk + Drop>(
     alloc: Global,
     files: FourFiles<D>,
@@ -164,7 +165,8 @@ pub fn open_files<M: Seats, D: Disk + Drop>(
     alloc: Global,
     files: FourFiles<D>,
 ) -> Opened<M, D>
-    ensures { IsWhole D.honest D.content result.front result.back result.images result.log result.ended }
+    ensures { IsWhole D.honest D.content result.front result.back result.images
+        result.log result.ended }
 {
     match open_world::<M, D>(alloc, files) {
         Ok((opened, _)) => opened,
@@ -172,8 +174,8 @@ pub fn open_files<M: Seats, D: Disk + Drop>(
     }
 }
 
-/// Recovers a world of two cells from these bytes. Its second cell has to be 0. Returns the tick, that of the image, and the
-/// word of the first cell.
+/// Recovers a world of two cells from these bytes. Its second cell has to be 0. Returns the tick,
+/// that of the image, and the word of the first cell.
 pub fn found_in(
     rt: &impl Abort,
     alloc: Global,

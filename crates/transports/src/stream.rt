@@ -21,8 +21,8 @@ pub enum Stream {
 }
 
 impl Stream {
-    /// Sets it up for lines that are answered one by one. Each call that waits longer than this silence fails; without
-    /// one it waits for ever.
+    /// Sets it up for lines that are answered one by one. Each call that waits longer than this
+    /// silence fails; without one it waits for ever.
     pub fn set_up(&self, silence: Option<Duration>) -> io::Result<()> {
         match self {
             Stream::Tcp(stream) => {
@@ -37,8 +37,9 @@ impl Stream {
         }
     }
 
-    /// Sends nothing more, and reads what the client still sends: up to its end, to a pause of a second or to 16 MiB. A
-    /// connection that is closed over unread bytes is reset, and its client may lose what was sent last.
+    /// Sends nothing more, and reads what the client still sends: up to its end, to a pause of a
+    /// second or to 16 MiB. A connection that is closed over unread bytes is reset, and its client
+    /// may lose what was sent last.
     pub fn drain(&self) -> io::Result<()> {
         self.end_sending()?;
         let mut piece = [0; DRAINED_BYTES];

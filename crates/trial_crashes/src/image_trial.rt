@@ -21,8 +21,8 @@ const ROUNDS: u64 = 3;
 /// More steps than a round of any trial has.
 const STEPS: u32 = 1000;
 
-/// Runs the rounds over a store of so many cells. After each step it reads what crashes may leave. Then it lets the call of
-/// each step fail in turn, and reads again.
+/// Runs the rounds over a store of so many cells. After each step it reads what crashes may leave.
+/// Then it lets the call of each step fail in turn, and reads again.
 pub fn try_images<C: Capture>(alloc: Global, cells: u32) -> Result<Tally, Refusal>
     requires { (1 ≤ cells) × (cells ≤ CELLS) }
 {
@@ -102,7 +102,8 @@ impl<C: Capture> Model for ImageTrial<C> {
     ghost view = { λ trial. trial.in_round };
 
     ghost invariant = { λ trial. (trial.in_round ≡ false → trial.keeper.phase ≡ Idle)
-        × ((images : ImageFiles) × Stands trial.keeper images trial.image_a.inner.content trial.image_b.inner.content
+        × ((images : ImageFiles)
+        × Stands trial.keeper images trial.image_a.inner.content trial.image_b.inner.content
         (IsCrashOutcome trial.image_a.inner) (IsCrashOutcome trial.image_b.inner)) };
 }
 
@@ -155,7 +156,8 @@ impl<C: Capture> ImageTrial<C> {
         answer
     }
 
-    // Lets the call of the next step fail, if it makes one. Then this step and the next one must answer Down.
+    // Lets the call of the next step fail, if it makes one. Then this step and the next one
+    // must answer Down.
     fn fail(&mut self, tally: &mut Tally) -> Result<(), Refusal> {
         self.image_a.arm(1);
         self.image_b.arm(1);

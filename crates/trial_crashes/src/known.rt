@@ -13,7 +13,8 @@ ghost use Rattle.image_files.specs.Image.{Closed};
 ghost use Rattle.recovery.specs.Recovered.{image_in};
 ghost use Rattle.trial_crashes.specs.Known.{image_known};
 
-/// The outcome of the file that isn't written. It must read as the newest image, or as closed if there is none.
+/// The outcome of the file that isn't written. It must read as the newest image, or as closed
+/// if there is none.
 pub fn kept_outcome(state: &ImageState, newest: &Option<Known>) -> Outcome
     ensures known { (result ≡ Outcome.Before) ⊎ (result ≡ Outcome.Wrong) }
     ensures before { result ≡ Outcome.Before → image_in state.now ≡ image_known newest.now }
@@ -25,8 +26,8 @@ pub fn kept_outcome(state: &ImageState, newest: &Option<Known>) -> Outcome
     }
 }
 
-/// The outcome of the file that is written. It may read as closed, as the image that it had before, or as the one that is
-/// written.
+/// The outcome of the file that is written. It may read as closed, as the image that it had before,
+/// or as the one that is written.
 pub fn written_outcome(state: &ImageState, before: &Option<Known>, round: &Option<Known>) -> Outcome
     ensures closed { result ≡ Outcome.Closed → image_in state.now ≡ Closed }
     ensures before { result ≡ Outcome.Before → image_in state.now ≡ image_known before.now }

@@ -1,4 +1,5 @@
-ghost use Rattle.std.specs.Prelude.{◌≡◌, ◌≢◌, ◌+◌, ◌*◌, ◌/◌, ◌^◌, ◌<◌, ◌≤◌, ◌++◌, ◌∷◌, [], length, IfOk, OnOk};
+ghost use Rattle.std.specs.Prelude.{◌≡◌, ◌≢◌, ◌+◌, ◌*◌, ◌/◌, ◌^◌, ◌<◌, ◌≤◌, ◌++◌, ◌∷◌, [], length};
+ghost use Rattle.std.specs.Prelude.{IfOk, OnOk};
 ghost use Rattle.action_log.specs.Queue.{QueueFits};
 ghost use Rattle.trial_crashes.specs.declared.crash.TheConstants.{KINDS};
 ghost use Rattle.trial_crashes.specs.Tally.{outcomes};
@@ -29,8 +30,8 @@ const IMAGE: [u8; 25] = [
     1, 1, 0, 0, 0, 0, 0, 0, 0, 0, 0, 0, 0, 0, 0, 0, 0, 0, 0, 0, 0, 0, 0, 0, 0,
 ];
 
-/// Runs a start, two groups, a switch and a group. After each step it recovers from what crashes of each kind leave. Then it
-/// lets the call of each step fail in turn, and recovers again.
+/// Runs a start, two groups, a switch and a group. After each step it recovers from what crashes of
+/// each kind leave. Then it lets the call of each step fail in turn, and recovers again.
 pub fn try_log(alloc: Global) -> Result<Tally, Refusal> {
     let mut tally = Tally::new();
     let steps = run(alloc, None, &mut tally)?;
@@ -90,7 +91,8 @@ impl Model for LogTrial {
     ghost view = { λ trial. trial.acked };
 
     ghost invariant = { λ trial. QueueFollows trial.keeper trial.queue.items
-        × ((place : LogPlace) × Stands trial.keeper trial.log_a.inner.content trial.log_b.inner.content
+        × ((place : LogPlace)
+        × Stands trial.keeper trial.log_a.inner.content trial.log_b.inner.content
         (IsCrashOutcome trial.log_a.inner) (IsCrashOutcome trial.log_b.inner) place) };
 }
 
@@ -144,7 +146,8 @@ impl LogTrial {
         Ok(())
     }
 
-    // Recovers from what crashes of each kind leave of the second file, beside these bytes of the first one.
+    // Recovers from what crashes of each kind leave of the second file, beside these bytes
+    // of the first one.
     fn check_beside(&self, log_a: &[u8], tally: &mut Tally) -> Result<(), Refusal>
         ensures { OnOk result (outcomes tally.old + KINDS < 2 ^ 32
             → outcomes tally.new ≡ outcomes tally.old + KINDS) }
@@ -158,8 +161,8 @@ impl LogTrial {
     }
 }
 
-// The outcome of a recovery, if the ticks up to `acked` are acknowledged: no tick, those ticks, or more. Tick k added k to
-// the only cell.
+// The outcome of a recovery, if the ticks up to `acked` are acknowledged: no tick, those ticks, or
+// more. Tick k added k to the only cell.
 fn outcome_of(found: &Recovered, acked: u64) -> Outcome
     ensures acknowledged { result ≢ Outcome.Wrong → acked ≤ found.now.tick }
     ensures words { result ≢ Outcome.Wrong

@@ -1,8 +1,9 @@
-//! The program `trial_crashes`: tries crashes after each step of both keepers. It runs rounds of both capture methods and
-//! jobs of the log over files in memory. After each step it reads what crashes of several kinds may leave. Then it lets the
-//! call of each step fail in turn, and reads again. It prints how many calls failed, and how many outcomes have nothing, the
-//! state before, or the state that is being written. It also prints how many outcomes and answers are wrong, and fails if
-//! there is one.
+//! The program `trial_crashes`: tries crashes after each step of both keepers. It runs rounds of
+//! both capture methods and jobs of the log over files in memory. After each step it reads what
+//! crashes of several kinds may leave. Then it lets the call of each step fail in turn, and reads
+//! again. It prints how many calls failed, and how many outcomes have nothing, the state before, or
+//! the state that is being written. It also prints how many outcomes and answers are wrong, and
+//! fails if there is one.
 #![tactic(auto)]
 
 mod crash;

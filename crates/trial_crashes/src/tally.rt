@@ -52,7 +52,8 @@ impl Tally {
     /// Counts a keeper's answer if it is wrong.
     pub fn answer(&mut self, is_right: bool)
         ensures right { is_right ≡ true → self.new ≡ self.old }
-        ensures wrong { is_right ≡ false → self.new.wrong_answers ≡ one_more self.old.wrong_answers }
+        ensures wrong { is_right ≡ false
+            → self.new.wrong_answers ≡ one_more self.old.wrong_answers }
         ensures outcomes { outcomes self.new ≡ outcomes self.old }
     {
         if !is_right {

@@ -6,7 +6,8 @@ use Rattle.recovery.specs.declared.recovered.Recovered.{Recovered}
 use Rattle.recovery.specs.Recovery.{Recovery}
 use Rattle.recovery.specs.Recovered.{recovery_of_answer}
 use Rattle.trial_damage.specs.declared.wanted.Wanted.{Wanted}
-use Rattle.trial_damage.specs.declared.wanted.Wanted.TheVariants.{World, NoImage, BadImage, BadSegment, BadReplay}
+use Rattle.trial_damage.specs.declared.wanted.Wanted.TheVariants.{World, NoImage, BadImage}
+use Rattle.trial_damage.specs.declared.wanted.Wanted.TheVariants.{BadSegment, BadReplay}
 
 -- the answer that recovery has to give
 abbrev pub answer_of : Wanted → Result Recovery Refusal

@@ -92,8 +92,9 @@ const CLOSED: u8 = 0;
 /// The mark of the second format, in the highest byte of the number after a gate.
 const SECOND_MARK: u64 = 0x20 << 56;
 
-/// Good files in these formats, with images of ticks 3 and 1. One segment has ticks 2 and 3 in one group. The other one has
-/// ticks 4 to 6, each in its own group. The numbers in the files are small, so that damage often makes two alike.
+/// Good files in these formats, with images of ticks 3 and 1. One segment has ticks 2 and 3 in one
+/// group. The other one has ticks 4 to 6, each in its own group. The numbers in the files are
+/// small, so that damage often makes two alike.
 pub fn good_files(alloc: Global, formats: Formats) -> Result<Files, AllocError> {
     let tick_2 = of_format(formats.log_a, &TICK_2, &TICK_2_WITH_CAP);
     let tick_6 = of_format(formats.log_b, &TICK_6, &TICK_6_WITH_SWAP);

@@ -1,7 +1,8 @@
-//! The program `trial_damage`: recovers 20,000 damaged copies of four good files. Each copy begins anew from good files,
-//! which have each mix of the two formats in turn, and gets one to four changes. The trial reads each file of a copy by
-//! itself, and finds the answer that the definition of recovery requires. It prints how many answers were right, and how
-//! often each kind came. It fails if one was wrong, or if a kind never came.
+//! The program `trial_damage`: recovers 20,000 damaged copies of four good files. Each copy begins
+//! anew from good files, which have each mix of the two formats in turn, and gets one to four
+//! changes. The trial reads each file of a copy by itself, and finds the answer that the definition
+//! of recovery requires. It prints how many answers were right, and how often each kind came. It
+//! fails if one was wrong, or if a kind never came.
 #![tactic(auto)]
 
 ghost use Rattle.std.specs.Prelude.{◌≡◌, ◌+◌, ◌^◌, ◌<◌, OnOk, IfOk};
@@ -58,7 +59,8 @@ fn try_copies(alloc: Global) -> Result<Tally, Refusal>
 
 // Recovers from a copy, and counts the answer.
 fn try_copy(alloc: Global, copy: &Files, tally: &mut Tally) -> Result<(), Refusal>
-    ensures { OnOk result (judged tally.old + 1 < 2 ^ 32 → judged tally.new ≡ judged tally.old + 1) }
+    ensures { OnOk result
+        (judged tally.old + 1 < 2 ^ 32 → judged tally.new ≡ judged tally.old + 1) }
 {
     let wanted = Wanted::of(alloc, copy)?;
     let answer = recover(

@@ -2,7 +2,8 @@ use action_log::LogState;
 use recovery::Recovered;
 use world_actions::{Action, LIMIT};
 
-/// Replays the ticks of a segment on a world, if the segment begins at its tick. Returns true if no action was refused.
+/// Replays the ticks of a segment on a world, if the segment begins at its tick. Returns true if no
+/// action was refused.
 pub fn replay_on(world: &mut Recovered, log: &LogState) -> bool {
     let LogState::Open { base, ticks } = log else {
         return true;
@@ -19,8 +20,9 @@ pub fn replay_on(world: &mut Recovered, log: &LogState) -> bool {
     true
 }
 
-// Does an action, or returns None if it is refused. The reasons are a missing cell, two cells that are the same, a cap out
-// of range, or a word that would leave its range. An amount or a difference out of range takes any word out of its range.
+// Does an action, or returns None if it is refused. The reasons are a missing cell, two cells that
+// are the same, a cap out of range, or a word that would leave its range. An amount or a difference
+// out of range takes any word out of its range.
 fn change(words: &mut [u64], action: Action) -> Option<()> {
     match action {
         Action::Set { cell, value } => put(words, cell, value),

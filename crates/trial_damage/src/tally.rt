@@ -33,7 +33,8 @@ pub struct Tally {
 }
 
 impl Tally {
-    ghost use Rattle.std.specs.Prelude.{◌≡◌, ◌+◌, ◌-◌, ◌^◌, ◌<◌, ◌↔◌, true, false, IsTrue, All, min};
+    ghost use Rattle.std.specs.Prelude.{◌≡◌, ◌+◌, ◌-◌, ◌^◌, ◌<◌, ◌↔◌, true, false, IsTrue, All};
+    ghost use Rattle.std.specs.Prelude.{min};
     ghost use Rattle.trial_damage.specs.Tally.{judged};
 
     /// Counts that are all 0.
@@ -63,7 +64,8 @@ impl Tally {
 
     /// True if no answer was wrong, and each kind came.
     pub fn passes(&self) -> bool
-        ensures { IsTrue result ↔ ((self.now.wrong ≡ 0) × All (λ count. 0 < count) self.now.wanted) }
+        ensures { IsTrue result
+            ↔ ((self.now.wrong ≡ 0) × All (λ count. 0 < count) self.now.wanted) }
     {
         self.wrong == 0 && self.wanted.each_came()
     }

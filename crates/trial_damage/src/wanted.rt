@@ -26,8 +26,8 @@ pub enum Wanted {
 }
 
 impl Wanted {
-    /// Finds the answer that the definition of recovery requires for four files, from what each of them reads as. The error
-    /// is `NoMemory`.
+    /// Finds the answer that the definition of recovery requires for four files, from what each of
+    /// them reads as. The error is `NoMemory`.
     pub fn of(alloc: Global, files: &Files) -> Result<Wanted, Refusal> {
         let (image_a, image_b) = (
             image_in(alloc, &files.image_a)?,

@@ -19,7 +19,8 @@ impl<const N: usize> Model for Counts<N> {
 }
 
 impl<const N: usize> Counts<N> {
-    ghost use Rattle.std.specs.Prelude.{◌≡◌, ℕ, ◌<◌, ◌≤◌, ◌↔◌, IsTrue, IfOk, All, replicate, set, slice_index};
+    ghost use Rattle.std.specs.Prelude.{◌≡◌, ℕ, ◌<◌, ◌≤◌, ◌↔◌, IsTrue, IfOk, All, replicate, set};
+    ghost use Rattle.std.specs.Prelude.{slice_index};
     ghost use Rattle.trial_kit.specs.Counts.{sum_of};
 
     /// Counts that are all 0.
@@ -31,7 +32,8 @@ impl<const N: usize> Counts<N> {
 
     /// Counts a thing once more, if it is one of them.
     pub fn count(&mut self, thing: usize)
-        ensures counted { thing < N → self.new ≡ set self.old thing (sum_of (slice_index self.old thing) 1) }
+        ensures counted { thing < N
+            → self.new ≡ set self.old thing (sum_of (slice_index self.old thing) 1) }
         ensures other { N ≤ thing → self.new ≡ self.old }
     {
         if thing < N {
@@ -42,7 +44,8 @@ impl<const N: usize> Counts<N> {
     /// Adds the counts of another object.
     pub fn add(&mut self, other: &Self)
         ensures { (thing : ℕ) → thing < N
-            → slice_index self.new thing ≡ sum_of (slice_index self.old thing) (slice_index other.now thing) }
+            → slice_index self.new thing
+            ≡ sum_of (slice_index self.old thing) (slice_index other.now thing) }
     {
         for thing in 0..N {
             self.counts[thing] = self.counts[thing].saturating_add(other.counts[thing]);

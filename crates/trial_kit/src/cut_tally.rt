@@ -12,7 +12,8 @@ pub struct CutTally {
     /// How many worlds were built from image.a, and from image.b.
     pub from_a: u64,
     pub from_b: u64,
-    /// After how many power cuts an answered tick was lost, or recovery found no world or a wrong one.
+    /// After how many power cuts an answered tick was lost, or recovery found no
+    /// world or a wrong one.
     pub wrong: u64,
 }
 
@@ -33,7 +34,8 @@ impl CutTally {
 
     /// True if nothing was wrong, there were at least `cuts` power cuts, and each kind came.
     pub fn passes(&self, cuts: u64) -> bool
-        ensures { IsTrue result → (self.now.wrong ≡ 0) × (cuts ≤ self.now.cuts) × (0 < self.now.uncertain)
+        ensures { IsTrue result
+            → (self.now.wrong ≡ 0) × (cuts ≤ self.now.cuts) × (0 < self.now.uncertain)
             × (0 < self.now.kept_more) × (0 < self.now.from_a) × (0 < self.now.from_b) }
     {
         let each_came = self.uncertain > 0

@@ -3,8 +3,9 @@ use std::fmt;
 /// How many files a world has. Each of them is made to fail.
 pub const FAILING_FILES: u32 = 4;
 
-/// Counts of runs in which a call was to fail. A call failed while the world was opened, or later one of an image or of the
-/// log, or none did. A run is wrong if an answered tick was lost or recovery found another world.
+/// Counts of runs in which a call was to fail. A call failed while the world was opened, or later
+/// one of an image or of the log, or none did. A run is wrong if an answered tick was lost or
+/// recovery found another world.
 #[derive(Clone, Copy, Debug, PartialEq, Eq)]
 pub struct FailureTally {
     pub opening: u32,
@@ -30,7 +31,8 @@ impl FailureTally {
 
     /// True if nothing was wrong, each file was tried until no call failed, and each kind came.
     pub fn passes(&self) -> bool
-        ensures { IsTrue result → (self.now.wrong ≡ 0) × (self.now.none ≡ 4) × (0 < self.now.opening)
+        ensures { IsTrue result
+            → (self.now.wrong ≡ 0) × (self.now.none ≡ 4) × (0 < self.now.opening)
             × (0 < self.now.images) × (0 < self.now.log) }
     {
         let each_came = self.opening > 0 && self.images > 0 && self.log > 0;

@@ -19,7 +19,8 @@ impl Model for Latencies {
 }
 
 impl Latencies {
-    ghost use Rattle.std.specs.Prelude.{◌≡◌, ◌≤◌, ◌<◌, ◌+◌, ◌-◌, ◌*◌, ◌/◌, length, slice_index, take, drop, All, Contains};
+    ghost use Rattle.std.specs.Prelude.{◌≡◌, ◌≤◌, ◌<◌, ◌+◌, ◌-◌, ◌*◌, ◌/◌, length, slice_index};
+    ghost use Rattle.std.specs.Prelude.{take, drop, All, Contains};
     ghost use Rattle.std.specs.List.Sorted.{IsPermutation};
 
     /// Sorts the latencies of a list.

@@ -1,6 +1,6 @@
-//! The common parts of the trials and measures. They are pseudorandom numbers, counts, tallies that say when a trial passes,
-//! and the bytes that a crash leaves of a file. Others are stretches whose allocations are refused or counted, measured
-//! times and their percentiles, and the exit status.
+//! The common parts of the trials and measures. They are pseudorandom numbers, counts, tallies that
+//! say when a trial passes, and the bytes that a crash leaves of a file. Others are stretches whose
+//! allocations are refused or counted, measured times and their percentiles, and the exit status.
 #![tactic(auto)]
 
 mod counts;

@@ -1,6 +1,7 @@
 ghost use Rattle.std.specs.Prelude.{◌≤◌, ◌≡◌, ◌+◌, ◌-◌, ◌*◌, ◌/◌, length, slice_index};
 
-/// The time that so many thousandths of all don't exceed, and 0 if there is none. The list begins with the shortest time.
+/// The time that so many thousandths of all don't exceed, and 0 if there is none. The list begins
+/// with the shortest time.
 pub fn of_thousandths(sorted: &[u64], thousandths: u32) -> u64
     requires { (1 ≤ thousandths) × (thousandths ≤ 1000) }
     ensures { result ≡ slice_index sorted.now ((length sorted.now * thousandths + 999) / 1000 - 1) }

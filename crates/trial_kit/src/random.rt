@@ -26,7 +26,8 @@ impl Random {
         Random { state: seed }
     }
 
-    /// Returns a number below the bound, or 0 if the bound is 0. It comes from the upper bits of the next state.
+    /// Returns a number below the bound, or 0 if the bound is 0. It comes from the upper bits
+    /// of the next state.
     pub fn below(&mut self, bound: u64) -> u64
         ensures state { self.new ≡ next_state self.old }
         ensures number { 0 < bound → result ≡ self.new / 2 ^ 33 % bound }

@@ -3,9 +3,9 @@ use disk_model::ModelFile;
 use std::alloc::Global;
 use world_actions::Refusal;
 
-/// Returns some bytes that a crash may leave of a file. Their length is that of the durable bytes, that of the present
-/// bytes, or one between. An uncertain place gets any byte, often the present one or the durable one. Each other place has
-/// its durable byte.
+/// Returns some bytes that a crash may leave of a file. Their length is that of the durable bytes,
+/// that of the present bytes, or one between. An uncertain place gets any byte, often the present
+/// one or the durable one. Each other place has its durable byte.
 pub fn left_by(alloc: Global, file: &ModelFile, random: &mut Random) -> Result<Vec<u8>, Refusal> {
     let (durable, now) = (file.durable(), file.now());
     let rest = (now.len() as u64).saturating_sub(durable.len() as u64);
@@ -22,8 +22,8 @@ pub fn left_by(alloc: Global, file: &ModelFile, random: &mut Random) -> Result<V
     Ok(left)
 }
 
-// The byte that is left at a place. An uncertain place has the present byte by habit 0, the durable one by habit 1, and any
-// byte by habit 2. Any other habit chooses one of the three each time.
+// The byte that is left at a place. An uncertain place has the present byte by habit 0, the durable
+// one by habit 1, and any byte by habit 2. Any other habit chooses one of the three each time.
 fn byte_at(file: &ModelFile, place: u64, habit: u64, random: &mut Random) -> u8 {
     let durable = file.durable().get(place as usize).copied();
     if let Some(byte) = durable

@@ -43,8 +43,8 @@ impl StopTally {
         self.stops = self.stops.saturating_add(1);
     }
 
-    /// Counts a crash. `stands` is the tick that recovery found, or `None` if it found none that it may find, which is
-    /// wrong.
+    /// Counts a crash. `stands` is the tick that recovery found, or `None` if it found none that it
+    /// may find, which is wrong.
     pub fn crash(&mut self, stands: Option<u64>) {
         self.crashes = self.crashes.saturating_add(1);
         self.stand(stands);
@@ -83,7 +83,8 @@ impl StopTally {
 
     /// True if nothing was wrong, all was tried, and recovery found each tick.
     pub fn passes(&self) -> bool
-        ensures { IsTrue result → (self.now.wrong ≡ 0) × (0 < self.now.stops) × (0 < self.now.crashes_in_starts)
+        ensures { IsTrue result
+            → (self.now.wrong ≡ 0) × (0 < self.now.stops) × (0 < self.now.crashes_in_starts)
             × (0 < self.now.images_failed) × (0 < self.now.log_failed) × (0 < self.now.judged) }
     {
         let all_tried = self.stops > 0

@@ -1,8 +1,9 @@
 use std::alloc::{AllocError, Global};
 
-/// Allocating a block of one of these sizes is a signal to the library `scripts/watched_allocations.c`. A stretch begins, in
-/// which the library may refuse one allocation, refuses each one, or counts them all. The last size ends it. Without the
-/// library the signal does nothing.
+/// Allocating a block of one of these sizes is a signal to the library
+/// `scripts/watched_allocations.c`. A stretch begins, in which the library may refuse one
+/// allocation, refuses each one, or counts them all. The last size ends it. Without the library the
+/// signal does nothing.
 const ONE_REFUSED: usize = 777_001;
 
 const EACH_REFUSED: usize = 777_002;

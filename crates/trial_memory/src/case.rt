@@ -11,7 +11,8 @@ pub trait Case: Sized + Drop {
     /// The refusal that it answers if an allocation is refused.
     fn refusal() -> Refusal;
 
-    /// True if a refused allocation may lead to this refusal. `is_same` says if the values are as before.
+    /// True if a refused allocation may lead to this refusal. `is_same` says if the
+    /// values are as before.
     fn is_refused(refusal: Refusal, is_same: bool) -> bool {
         is_same && refusal == Self::refusal()
     }
@@ -31,7 +32,8 @@ pub trait Case: Sized + Drop {
 pub enum Outcome {
     /// No allocation was refused.
     Answered,
-    /// The call was refused with this, and its values were as they may be then. Made once more, it gave the right answer.
+    /// The call was refused with this, and its values were as they may be then. Made once more, it
+    /// gave the right answer.
     Refused(Refusal),
     /// Something else.
     Wrong,

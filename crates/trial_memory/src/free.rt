@@ -41,8 +41,8 @@ trait Free: Sized + Drop {
     fn call(self, alloc: Global) -> Option<u64>;
 }
 
-/// Makes the calls that take no memory, first as usual, and then while each allocation is refused. Returns true if they gave
-/// the same answers.
+/// Makes the calls that take no memory, first as usual, and then while each allocation is refused.
+/// Returns true if they gave the same answers.
 pub fn try_free_calls(alloc: Global) -> Result<bool, Refusal> {
     let are_stores_free = try_free::<PlainCopy>(alloc)?
         & try_free::<Zigzag>(alloc)?
@@ -157,8 +157,9 @@ impl Free for RoomyFile {
     }
 }
 
-// Files that are refused before memory is asked for. Two are headers of images with no word after: one of 2^30 cells, which
-// are 8 GB, and one of the most cells. The third is a segment whose group is cut off.
+// Files that are refused before memory is asked for. Two are headers of images with no word
+// after: one of 2^30 cells, which are 8 GB, and one of the most cells. The third is a segment
+// whose group is cut off.
 #[derive(Drop)]
 struct BadFiles;
 
@@ -203,8 +204,8 @@ impl Free for EndlessLine {
     }
 }
 
-// A tick without an action, a mark, and the moves of both keepers. Then the same again, with a cover of the tick once its
-// image is open.
+// A tick without an action, a mark, and the moves of both keepers. Then the same again, with a
+// cover of the tick once its image is open.
 #[derive(Drop)]
 struct SettledCore {
     core: Core<Zigzag>,

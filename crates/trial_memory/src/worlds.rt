@@ -1,5 +1,5 @@
-//! Worlds on files in memory. The files have memory for all that is written, or they grow while an allocation may be
-//! refused.
+//! Worlds on files in memory. The files have memory for all that is written, or they grow while an
+//! allocation may be refused.
 use crate::case::{Case, digest_of_bytes, folded};
 use crate::files::{IMAGE, LOG, file_of};
 use batches::{Answer, Batch, BatchReader, Fed};
@@ -15,7 +15,8 @@ use zigzag::Zigzag;
 
 /// How much memory files have at first.
 pub trait Room {
-    /// True if files grow. A refused growth is a failed call of the device, and files may have changed before it.
+    /// True if files grow. A refused growth is a failed call of the device, and files may have
+    /// changed before it.
     fn grows() -> bool;
 }
 
@@ -89,7 +90,8 @@ fn is_refused<R: Room>(refusal: Refusal, is_same: bool) -> bool {
     (is_same && refusal == Refusal::NoMemory) || (R::grows() && refusal == Refusal::Device)
 }
 
-/// A case that makes the files of a new world. If a failed start left its image, the world is opened instead.
+/// A case that makes the files of a new world. If a failed start left its image, the world
+/// is opened instead.
 #[derive(Drop)]
 pub struct NewWorld<R: Room> {
     alloc: Global,
@@ -188,8 +190,8 @@ impl<R: Room> Case for Open<R> {
         })
     }
 
-    /// If files grow, a start may have failed before, and recovery may find another image. So the number leaves out its tick
-    /// then.
+    /// If files grow, a start may have failed before, and recovery may find another image. So the
+    /// number leaves out its tick then.
     fn call(&mut self) -> Result<u64, Refusal> {
         let files = self.files.take().ok_or(Refusal::Device)?;
         match SerialWorld::<Zigzag, ModelFile>::open(self.alloc, files, 1) {

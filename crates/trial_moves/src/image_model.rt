@@ -19,8 +19,8 @@ pub struct ImageModel {
 }
 
 impl ImageModel {
-    /// The images at the beginning of a start at `tick`. If the newest image is of that tick the start has no round, else it
-    /// has one.
+    /// The images at the beginning of a start at `tick`. If the newest image is of that tick the
+    /// start has no round, else it has one.
     pub fn new(cells: u32, newest: Option<u64>, tick: u64) -> Self {
         let mut images = ImageModel {
             cells: u64::from(cells),
@@ -91,7 +91,8 @@ impl ImageModel {
         hold(is_within, Rule::RoundSteps)
     }
 
-    // A take for each cell, a write for each chunk, the header, the sync of the body, the gate and its sync.
+    // A take for each cell, a write for each chunk, the header, the sync of the body, the
+    // gate and its sync.
     fn least_steps(&self) -> u64 {
         self.cells
             .saturating_add(self.cells.div_ceil(64))

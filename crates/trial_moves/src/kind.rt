@@ -1,9 +1,9 @@
 use plain_moves::{Asked, PlainAnswer};
 use world_actions::Refusal;
 
-/// The kinds of answers that can come. NoMemory would need a refused allocation, and TicksEnded more ticks than can be
-/// played. The core gives none of the other refusals that aren't here. A cover isn't answered Working, because between two
-/// switches a tick has ended.
+/// The kinds of answers that can come. NoMemory would need a refused allocation, and TicksEnded
+/// more ticks than can be played. The core gives none of the other refusals that aren't here. A
+/// cover isn't answered Working, because between two switches a tick has ended.
 #[derive(Clone, Copy)]
 pub enum Kind {
     Did,

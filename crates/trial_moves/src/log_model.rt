@@ -86,7 +86,8 @@ impl LogModel {
         None
     }
 
-    /// The greatest tick of a receipt or of an open image, or the start's tick before the first one.
+    /// The greatest tick of a receipt or of an open image, or the start's tick before
+    /// the first one.
     pub fn acknowledged(&self) -> u64 {
         self.acknowledged
     }
@@ -106,8 +107,8 @@ impl LogModel {
         self.acknowledged = self.acknowledged.max(tick);
     }
 
-    /// Judges the answer to a cover of an open image's tick, and follows it. While no job is in work, the records before the
-    /// switch at that tick are dropped.
+    /// Judges the answer to a cover of an open image's tick, and follows it. While no job is in
+    /// work, the records before the switch at that tick are dropped.
     pub fn cover(&mut self, tick: u64, given: PlainAnswer) -> Result<(), Wrong> {
         let before = self.taken;
         let count = self.before_switch(tick);
@@ -124,7 +125,8 @@ impl LogModel {
         expect(PlainAnswer::LogAcked(tick), given)
     }
 
-    // How many records wait before the switch at this tick. The number is 0 if a job is in work or no such switch waits.
+    // How many records wait before the switch at this tick. The number is 0 if a job is in work or
+    // no such switch waits.
     fn before_switch(&self, tick: u64) -> usize {
         if self.job != Job::Rest {
             return 0;
@@ -139,8 +141,8 @@ impl LogModel {
         0
     }
 
-    /// Judges the answer to a step, and follows it. `waits` is true while the start's image is not open yet. `starting` is
-    /// true if the start isn't over after the step.
+    /// Judges the answer to a step, and follows it. `waits` is true while the start's image is not
+    /// open yet. `starting` is true if the start isn't over after the step.
     pub fn step(
         &mut self,
         fate: Fate,
@@ -207,8 +209,8 @@ impl LogModel {
         hold(whole, Rule::StartSteps)
     }
 
-    // Makes the first step of a group or of a switch. The first switch after a start finds the other segment shut. Each
-    // later one has to close it.
+    // Makes the first step of a group or of a switch. The first switch after a start finds the
+    // other segment shut. Each later one has to close it.
     fn take(&mut self) {
         if let Some(Queued::Switch(_)) = self.queue.front() {
             self.queue.pop_front();

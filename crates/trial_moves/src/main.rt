@@ -1,6 +1,7 @@
-//! The program `trial_moves`: makes random moves of the core, with failing calls and crashes among them. It does so over all
-//! stores and over worlds of several sizes, and judges each answer by a plain model. It prints how often each answer came.
-//! It fails if one was wrong, or if one that can come did not.
+//! The program `trial_moves`: makes random moves of the core, with failing calls and crashes among
+//! them. It does so over all stores and over worlds of several sizes, and judges each answer by a
+//! plain model. It prints how often each answer came. It fails if one was wrong, or if one that
+//! can come did not.
 #![tactic(auto)]
 
 mod image_model;

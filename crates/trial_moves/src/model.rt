@@ -10,8 +10,8 @@ use world_core::Fate;
 mod crashes;
 mod plays;
 
-/// A model of a world, only by moves and answers. It has the words after each ended tick. It knows nothing of files, gates,
-/// segments, or how a store keeps its words.
+/// A model of a world, only by moves and answers. It has the words after each ended tick. It knows
+/// nothing of files, gates, segments, or how a store keeps its words.
 #[derive(Drop)]
 pub struct PlainModel {
     alloc: Global,
@@ -44,7 +44,8 @@ impl PlainModel {
         })
     }
 
-    /// Judges the answer to a move, and follows it. `starting` is true if the core says that its start isn't over then.
+    /// Judges the answer to a move, and follows it. `starting` is true if the core says that its
+    /// start isn't over then.
     pub fn follow(
         &mut self,
         asked: Asked,

@@ -96,7 +96,8 @@ impl Player {
     }
 }
 
-// Chooses the tick of a cover: mostly the newest image's, else that of a waiting switch, or one that no image has.
+// Chooses the tick of a cover: mostly the newest image's, else that of a waiting switch, or one
+// that no image has.
 fn covered(model: &PlainModel, random: &mut Random) -> u64 {
     let newest = model.newest();
     match random.below(10) {

@@ -2,8 +2,8 @@ use disk_model::ModelFile;
 use trial_kit::Random;
 use world_actions::Refusal;
 
-/// Changes the bytes so that no crash may leave them of this file. They get one byte too many, lose durable ones, or change
-/// at a place that isn't uncertain.
+/// Changes the bytes so that no crash may leave them of this file. They get one byte too many, lose
+/// durable ones, or change at a place that isn't uncertain.
 pub fn spoil(left: &mut Vec<u8>, file: &ModelFile, random: &mut Random) -> Result<(), Refusal> {
     let durable = file.durable().len() as u64;
     let place = random.below(durable);

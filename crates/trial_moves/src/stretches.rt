@@ -88,7 +88,8 @@ impl<C: Capture> Stretch<C> {
         Ok(())
     }
 
-    // Crashes first. Then it fills a tick and the queue, asks for one more of each, and asks for a mark.
+    // Crashes first. Then it fills a tick and the queue, asks for one more of each, and
+    // asks for a mark.
     fn meet_limits(&mut self) -> Result<(), Stop> {
         self.ask(Asked::Crash)?;
         self.start()?;

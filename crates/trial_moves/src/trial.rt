@@ -79,8 +79,8 @@ impl<C: Capture> Trial<C> {
         self.cells
     }
 
-    /// Makes a move, and judges its answer. `random` chooses the bytes that a crash leaves. If a crash may leave them, each
-    /// cell is read then.
+    /// Makes a move, and judges its answer. `random` chooses the bytes that a crash leaves. If a
+    /// crash may leave them, each cell is read then.
     pub fn ask(&mut self, asked: Asked, random: &mut Random) -> Result<PlainAnswer, Stop> {
         if let Some(plain) = asked.as_move() {
             return self.step(asked, plain);

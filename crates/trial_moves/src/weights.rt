@@ -1,7 +1,7 @@
 use trial_kit::Random;
 
-/// How often each kind of move is chosen, of a thousand: actions, reads, ends, marks, steps of the images, steps of the log,
-/// covers, and crashes. The rest of the thousand are crashes too.
+/// How often each kind of move is chosen, of a thousand: actions, reads, ends, marks, steps of the
+/// images, steps of the log, covers, and crashes. The rest of the thousand are crashes too.
 #[derive(Clone, Copy)]
 pub struct Weights {
     of: [u64; 8],
@@ -54,7 +54,8 @@ impl Weights {
         Weights { of }
     }
 
-    /// Draws a kind of move, and returns its place in the list. A place past the last one is a crash.
+    /// Draws a kind of move, and returns its place in the list. A place past the last
+    /// one is a crash.
     pub fn draw(&self, random: &mut Random) -> u32 {
         let mut rest = random.below(1000);
         let mut kind = 0u32;

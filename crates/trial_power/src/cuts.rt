@@ -7,7 +7,8 @@ use std::alloc::Global;
 use trial_kit::{CutTally, Random};
 use world_actions::Refusal;
 
-/// Cuts the power at so many random moments up to the last one, in order, and judges the world that is recovered after each.
+/// Cuts the power at so many random moments up to the last one, in order, and judges the world that
+/// is recovered after each.
 pub fn try_cuts(
     alloc: Global,
     mut files: FourFiles<Replay>,

@@ -172,7 +172,8 @@ fn stands_in(alloc: Global, files: [&File; 4]) -> Option<(u64, u64)> {
     Some((found.tick, found.words.first().copied()?))
 }
 
-// Counts a recovery as wrong unless it found each answered tick and none that didn't end. Each tick added one to the word.
+// Counts a recovery as wrong unless it found each answered tick and none that didn't end. Each tick
+// added one to the word.
 fn judge(stands: Option<(u64, u64)>, answered: u64, ended: u64, failures: &mut FailureTally) {
     let is_right = match stands {
         Some((tick, word)) => answered <= tick && tick <= ended && word == tick,

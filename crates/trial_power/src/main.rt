@@ -1,9 +1,11 @@
-//! The program `trial_power`: lets workers in threads play worlds whose files fail, or whose power is cut.
+//! The program `trial_power`: lets workers in threads play worlds whose files fail, or
+//! whose power is cut.
 //!
-//! It makes a world in the files of the current folder, and lets workers play it while each call of a file is recorded. Then
-//! it cuts the power at random moments: it makes the files again as the disk model lets a power cut leave them, and
-//! recovers. It also lets each call of each file fail in turn, over files in memory. It prints its counts to standard error.
-//! It fails if an answered tick is lost, if recovery finds a wrong world, or if something that can come never did.
+//! It makes a world in the files of the current folder, and lets workers play it while each call of
+//! a file is recorded. Then it cuts the power at random moments: it makes the files again as the
+//! disk model lets a power cut leave them, and recovers. It also lets each call of each file fail
+//! in turn, over files in memory. It prints its counts to standard error. It fails if an answered
+//! tick is lost, if recovery finds a wrong world, or if something that can come never did.
 #![tactic(auto)]
 
 mod cuts;

@@ -8,7 +8,8 @@ use std::sync::atomic::Ordering;
 use workers::Asker;
 use world_actions::{Action, Refusal};
 
-/// A tick that was answered to a player, the cell to which it added one, and the moment of the answer.
+/// A tick that was answered to a player, the cell to which it added one, and the
+/// moment of the answer.
 #[derive(Clone, Copy, Debug, PartialEq, Eq)]
 pub struct Answered {
     pub moment: u64,

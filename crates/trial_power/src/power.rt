@@ -144,7 +144,8 @@ fn is_up<M: Seats>(served: &Served<M>) -> bool {
     !served.stopped.checkpointer.is_down() && !served.stopped.log_writer.is_down()
 }
 
-// Collects the ticks of all players. Each of their batches was answered by its own tick, else it is an error.
+// Collects the ticks of all players. Each of their batches was answered by its own tick,
+// else it is an error.
 fn ticks_of(alloc: Global, begun: Recovered, answers: &[Vec<Answered>]) -> Result<Ticks, Refusal> {
     let count = (PLAYERS as usize).saturating_mul(BATCHES as usize);
     let mut ticks = Ticks::new(alloc, begun, count)?;

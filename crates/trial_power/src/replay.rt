@@ -33,7 +33,8 @@ impl Replay {
         Ok(())
     }
 
-    /// True if the present bytes aren't the durable ones, so that a crash may leave more than one thing.
+    /// True if the present bytes aren't the durable ones, so that a crash may leave
+    /// more than one thing.
     fn is_uncertain(&self) -> bool {
         self.file.durable() != self.file.now()
     }
@@ -54,8 +55,8 @@ fn make(file: &mut ModelFile, change: &Change) -> Result<(), Refusal> {
 /// The calls of four files.
 pub type Calls<'a> = FourFiles<&'a [Call]>;
 
-/// Makes the recorded calls of all files before a moment. Returns true if a file then has bytes that aren't durable, so that
-/// a crash may leave more than one thing.
+/// Makes the recorded calls of all files before a moment. Returns true if a file then has bytes
+/// that aren't durable, so that a crash may leave more than one thing.
 pub fn go_on(
     files: &mut FourFiles<Replay>,
     calls: &Calls<'_>,

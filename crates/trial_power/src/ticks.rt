@@ -8,7 +8,8 @@ pub struct Ticks {
     // The tick and the words at the beginning of the run.
     base: u64,
     words: Vec<u64>,
-    // The moment at which each tick after it was answered, or 0 if it wasn't, and the cell that it changed.
+    // The moment at which each tick after it was answered, or 0 if it wasn't, and the cell
+    // that it changed.
     moments: Vec<u64>,
     cells: Vec<u32>,
 }
@@ -24,7 +25,8 @@ impl Ticks {
         })
     }
 
-    /// Keeps an answer. Returns true if it is of one of the ticks, and the first answer of that tick.
+    /// Keeps an answer. Returns true if it is of one of the ticks, and the first
+    /// answer of that tick.
     pub fn keep(&mut self, answered: Answered) -> bool {
         let at = answered.tick.wrapping_sub(self.base).wrapping_sub(1) as usize;
         let (Some(moment), Some(cell)) = (self.moments.get_mut(at), self.cells.get_mut(at)) else {

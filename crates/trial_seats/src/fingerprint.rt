@@ -1,4 +1,5 @@
-/// A number that represents words. It is a sum of terms, one for each cell, so that a write changes one term.
+/// A number that represents words. It is a sum of terms, one for each cell, so that a write
+/// changes one term.
 #[derive(Clone, Copy)]
 pub struct Fingerprint {
     sum: u64,

@@ -1,7 +1,7 @@
-//! The program `trial_seats`: tries that each store hands out the words of its marks. In one thread each store does one list
-//! of moves beside the plain copy. Then one thread writes and marks while another takes, by both methods and without a lock.
-//! The words at each mark are compared with those that were taken. It fails if words differ, or if something that can come
-//! did not.
+//! The program `trial_seats`: tries that each store hands out the words of its marks. In one thread
+//! each store does one list of moves beside the plain copy. Then one thread writes and marks while
+//! another takes, by both methods and without a lock. The words at each mark are compared with
+//! those that were taken. It fails if words differ, or if something that can come did not.
 #![tactic(auto)]
 
 mod fingerprint;
@@ -69,8 +69,8 @@ fn try_sizes<R: Print + AllocGlobal, C: Capture>(
     Ok(true)
 }
 
-// Prints how many takes were the same, or what was wrong. Returns true if all was right. `has_same` says if the store
-// answers Same for unchanged cells.
+// Prints how many takes were the same, or what was wrong. Returns true if all was right. `has_same`
+// says if the store answers Same for unchanged cells.
 fn report_takes<R: Print>(
     rt: &R,
     store: &str,

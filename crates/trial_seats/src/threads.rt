@@ -8,7 +8,8 @@ use shared_capture::{Back, Front, Method, meet, ping_pong_pair, zigzag_pair};
 use std::alloc::Global;
 use std::thread::{Threads, join};
 
-/// Tries two threads at a pair of seats of the method Zigzag, for so many rounds. Returns how many were the same.
+/// Tries two threads at a pair of seats of the method Zigzag, for so many rounds. Returns how
+/// many were the same.
 pub fn try_zigzag<R: Threads + Sync>(
     rt: &R,
     alloc: Global,
@@ -32,7 +33,8 @@ pub fn try_ping_pong<R: Threads + Sync>(
     try_pair(rt, alloc, front, back, &zeros, rounds)
 }
 
-// Lets one thread write and mark while another takes. Then the seats meet, and no round may be open.
+// Lets one thread write and mark while another takes. Then the seats meet, and no
+// round may be open.
 fn try_pair<M: Method + Send + 'static, R: Threads + Sync>(
     rt: &R,
     alloc: Global,

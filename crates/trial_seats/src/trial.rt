@@ -30,8 +30,8 @@ struct Trial<C: Capture> {
     counts: Counts<KINDS>,
 }
 
-/// Makes one list of moves over a store and over the plain copy. Each take of the store has to represent the word that the
-/// plain copy hands out.
+/// Makes one list of moves over a store and over the plain copy. Each take of the store has to
+/// represent the word that the plain copy hands out.
 pub fn try_store<C: Capture>(alloc: Global, cells: usize) -> Result<Counts<KINDS>, Wrong> {
     let mut trial = Trial::<C>::new(alloc, cells)?;
     let mut player = Player::new(SEED, cells);

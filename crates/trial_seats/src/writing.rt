@@ -26,8 +26,8 @@ struct Writer {
     fingerprint: Fingerprint,
 }
 
-/// Writes cells that are all 0 at first, and opens so many rounds, each as soon as it can. Returns the fingerprint of the
-/// words at each mark.
+/// Writes cells that are all 0 at first, and opens so many rounds, each as soon as it can. Returns
+/// the fingerprint of the words at each mark.
 pub fn write_rounds<M: Method>(
     alloc: Global,
     mut front: Front<M>,

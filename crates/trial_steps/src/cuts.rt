@@ -25,8 +25,9 @@ const SESSIONS: u64 = 4;
 
 const BATCHES: u64 = 40;
 
-/// Bounds of the random numbers of steps after which the workers are held. The mutator makes fewer steps for the batches,
-/// the checkpointer for some rounds, and the log writer for the log of the batches.
+/// Bounds of the random numbers of steps after which the workers are held. The mutator makes
+/// fewer steps for the batches, the checkpointer for some rounds, and the log writer for the
+/// log of the batches.
 const PLAYS: u64 = 60;
 
 const TAKES: u64 = 400;
@@ -45,7 +46,8 @@ struct Played {
     stopped: Result<(), Refusal>,
 }
 
-/// Holds the three workers of a world at random places in their threads. Each run begins from what a crash left.
+/// Holds the three workers of a world at random places in their threads. Each run begins from
+/// what a crash left.
 pub fn try_cuts<R: Threads + Wait + Copy + Send + 'static, M: Seats + Send + 'static>(
     rt: &R,
     trial: &mut Trial,
@@ -134,8 +136,8 @@ impl Played {
         Ok(())
     }
 
-    // Sends a batch. The model runs the batches in this order, and also those that the mutator won't run, which are the last
-    // ones.
+    // Sends a batch. The model runs the batches in this order, and also those that the mutator
+    // won't run, which are the last ones.
     fn send<R: Wait>(&mut self, rt: &R, trial: &mut Trial) -> Result<(), Refusal> {
         let number = trial.random.below(SESSIONS) as usize;
         let Some(session) = self.sessions.get_mut(number) else {
@@ -189,7 +191,8 @@ impl Played {
     }
 }
 
-// Returns the tick of a post, else 0. A refusal comes only if the log is down or the mutator is held.
+// Returns the tick of a post, else 0. A refusal comes only if the log is down or the
+// mutator is held.
 fn heed(answer: Answer, trial: &mut Trial) -> u64 {
     match answer {
         Answer::Post(tick) => {

@@ -26,8 +26,8 @@ impl Draft {
         &self.batch
     }
 
-    /// Fills it for a world of so many cells, mostly with few requests. Now and then it has none, or more requests than a
-    /// tick may have actions.
+    /// Fills it for a world of so many cells, mostly with few requests. Now and then it has none,
+    /// or more requests than a tick may have actions.
     pub fn fill(&mut self, cells: u32, random: &mut Random) {
         self.batch.clear();
         let count = match random.below(200) {

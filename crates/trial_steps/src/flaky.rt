@@ -78,7 +78,8 @@ impl Disk for Flaky {
 
     ghost are_bytes = { λ disk left _ outcome. outcome.are_bytes };
 
-    ghost few_faults = { λ disk. min-last_count (min disk.file.inner.faults last_count + disk.file.faults) };
+    ghost few_faults = { λ disk.
+        min-last_count (min disk.file.inner.faults last_count + disk.file.faults) };
 
     fn len(&mut self) -> Result<u64, Refusal> {
         self.arm();

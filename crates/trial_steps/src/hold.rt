@@ -5,7 +5,8 @@ use workers::{Gate, Pass, Place};
 #[derive(Drop)]
 pub struct Hold {
     random: Random,
-    // Each time it is asked it sticks with a chance of one in so many. If this is 0 it never sticks.
+    // Each time it is asked it sticks with a chance of one in so many. If this is 0
+    // it never sticks.
     sticks: u64,
     is_stuck: bool,
 }

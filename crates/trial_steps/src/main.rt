@@ -1,10 +1,12 @@
 //! The program `trial_steps`: tries that a running server is sound after every step.
 //!
-//! The three workers of a world make random steps in one thread, over files in memory whose calls fail. Gates hold the
-//! workers for a while, or for good. After each step the trial tries five crashes. From what each leaves, recovery has to
-//! give the world after a pushed tick, with all acknowledged ones. The next run begins from what a crash left. Then the
-//! workers run in threads. Each is held at a random place, and their files are judged in the same way. The trial prints to
-//! standard error how often each thing came. It fails if something was wrong, or if something never came.
+//! The three workers of a world make random steps in one thread, over files in memory whose calls
+//! fail. Gates hold the workers for a while, or for good. After each step the trial tries five
+//! crashes. From what each leaves, recovery has to give the world after a pushed tick, with all
+//! acknowledged ones. The next run begins from what a crash left. Then the workers run in
+//! threads. Each is held at a random place, and their files are judged in the same way. The trial
+//! prints to standard error how often each thing came. It fails if something was wrong, or if
+//! something never came.
 #![tactic(auto)]
 
 mod cuts;

@@ -7,7 +7,8 @@ use world_actions::Refusal;
 /// The most actions that a tick accepts.
 const ACTIONS: u32 = 256;
 
-/// A model of a world: the words after each tick, and the answer of each. It knows nothing of files or workers.
+/// A model of a world: the words after each tick, and the answer of each. It knows nothing of
+/// files or workers.
 #[derive(Drop)]
 pub struct PlainModel {
     alloc: Global,

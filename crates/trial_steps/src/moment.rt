@@ -9,7 +9,8 @@ pub struct Moment {
     image: Option<u64>,
     log_calls: u64,
     has_work: bool,
-    // True if the checkpointer or the log writer makes no more steps, though no call of its files failed.
+    // True if the checkpointer or the log writer makes no more steps, though no call of
+    // its files failed.
     images_stuck: bool,
     log_stuck: bool,
     log_down: bool,
@@ -36,7 +37,8 @@ impl Moment {
             Kind::CheckpointerStuck,
         );
         tally.count_if(!self.log_stuck && after.log_stuck, Kind::LogWriterStuck);
-        // A step that has work and makes no call on the log's files leaves out records that an image has.
+        // A step that has work and makes no call on the log's files leaves out records
+        // that an image has.
         let covers = self.has_work && self.log_calls == after.log_calls && !after.log_down;
         tally.count_if(step == Kind::Log && covers, Kind::Covered);
     }

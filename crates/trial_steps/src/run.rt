@@ -14,7 +14,8 @@ use world_ticks::TICK_MAX;
 /// How many sessions there are: more than items go into the channel.
 pub const SESSIONS: u64 = 80;
 
-/// How many items go into the channel. A push on a full one waits for a pop, which can't come in one thread.
+/// How many items go into the channel. A push on a full one waits for a pop, which can't
+/// come in one thread.
 const ROOM: u64 = 64;
 
 /// How often each step is chosen, of a thousand: play, mark, end, pop, log, and else image.
@@ -38,7 +39,8 @@ pub struct Run<M: Method> {
     weights: u64,
     // The number of the session that asks next.
     next: u64,
-    // The tick of the last round, or of the start. `is_open` is true if the image of that round is still to be opened.
+    // The tick of the last round, or of the start. `is_open` is true if the image of that round is
+    // still to be opened.
     marked: u64,
     is_open: bool,
     // The most items that may have been pushed, and the least of them that were popped.
@@ -52,7 +54,8 @@ pub struct Run<M: Method> {
 }
 
 impl<M: Method> Run<M> {
-    /// A world that has begun, and the sessions that play it. A round is due after each `every` ticks.
+    /// A world that has begun, and the sessions that play it. A round is due after
+    /// each `every` ticks.
     pub fn new(world: World<M>, sessions: Vec<Session>, every: u32) -> Self {
         let ended = world.ended();
         Run {
@@ -161,7 +164,8 @@ impl<M: Method> Run<M> {
         }
     }
 
-    // Lets the next session ask for the drafted batch. The batch is run, and its tick owed, or it is refused at once.
+    // Lets the next session ask for the drafted batch. The batch is run, and its tick owed, or it
+    // is refused at once.
     fn play<R: Wait>(&mut self, rt: &R, trial: &mut Trial) -> Result<(), Refusal> {
         let Some(session) = self.sessions.get_mut(self.next as usize) else {
             return Ok(());
@@ -254,8 +258,8 @@ impl<M: Method> Run<M> {
     }
 }
 
-// Counts an answer, and judges it. A post is of an acknowledged tick. A batch that was run is refused only if the log is
-// down.
+// Counts an answer, and judges it. A post is of an acknowledged tick. A batch that was run is
+// refused only if the log is down.
 fn heed(answer: Answer, acked: u64, log_down: bool, trial: &mut Trial) {
     match answer {
         Answer::Post(tick) => {

@@ -16,8 +16,8 @@ use world_ticks::TICK_MAX;
 /// The sizes of the worlds.
 const SIZES: [u32; 3] = [1, 65, 130];
 
-/// How many worlds there are of each size, and how many steps are made in each. Files never get shorter, so there are many
-/// worlds.
+/// How many worlds there are of each size, and how many steps are made in each. Files never get
+/// shorter, so there are many worlds.
 const WORLDS: u32 = 11;
 
 const STEPS: u64 = 1_500;
@@ -53,7 +53,8 @@ pub fn try_steps<R: Wait, M: Seats>(rt: &R, trial: &mut Trial) -> Result<(), Ref
     try_segment::<R, M>(rt, trial)
 }
 
-// Makes so many random steps in a new world. Each run begins from what the crash of the last one left.
+// Makes so many random steps in a new world. Each run begins from what the crash of
+// the last one left.
 fn try_world<R: Wait, M: Seats>(
     rt: &R,
     trial: &mut Trial,

@@ -101,7 +101,8 @@ impl Session {
         Ok(to)
     }
 
-    /// Notes that its batch was run as this tick, and that so many items were pushed up to the tick's.
+    /// Notes that its batch was run as this tick, and that so many items were pushed
+    /// up to the tick's.
     pub fn runs(&mut self, tick: u64, pushed: u64) {
         if let Some(pending) = &mut self.pending {
             pending.run = Some((tick, pushed));

@@ -13,7 +13,8 @@ use world_actions::Refusal;
 /// The bytes that a crash leaves of four files.
 pub type Left = FourFiles<Vec<u8>>;
 
-/// The files of a world between two steps, how many ticks are acknowledged, and how many were pushed.
+/// The files of a world between two steps, how many ticks are acknowledged, and how
+/// many were pushed.
 #[derive(Drop)]
 pub struct Stand<'a> {
     pub files: FourFiles<&'a Flaky>,
@@ -60,8 +61,8 @@ impl<'a> Stand<'a> {
         }
     }
 
-    /// Tries five crashes. From what each leaves, recovery has to find the world after a pushed tick, with all acknowledged
-    /// ones.
+    /// Tries five crashes. From what each leaves, recovery has to find the world after a pushed
+    /// tick, with all acknowledged ones.
     pub fn judge(&self, trial: &mut Trial) -> Result<(), Refusal> {
         let byte = trial.random.byte();
         self.try_crash(Some(Leaving::Lose), trial)?;
@@ -99,7 +100,8 @@ impl<'a> Stand<'a> {
         tally.count_if(self.files.log_b.has_failed(), Kind::LogBFailed);
     }
 
-    // Crashes in the way of `leaving`, or at random if it is None. Recovers from the bytes that are left.
+    // Crashes in the way of `leaving`, or at random if it is None. Recovers from the
+    // bytes that are left.
     fn try_crash(
         &self,
         leaving: Option<Leaving>,
@@ -154,8 +156,8 @@ impl<'a> Stand<'a> {
     }
 }
 
-// The bytes that a crash in the way of `leaving` leaves of a file. If it is None, they are random ones that a crash may
-// leave.
+// The bytes that a crash in the way of `leaving` leaves of a file. If it is None, they are random
+// ones that a crash may leave.
 fn left_of(
     alloc: Global,
     file: &Flaky,

@@ -1,8 +1,8 @@
 use trial_kit::Counts;
 use world_actions::Refusal;
 
-/// The things that can come. A refused push is none of them, because the end that pops is never dropped here. Neither is a
-/// lack of memory, which ends the trial.
+/// The things that can come. A refused push is none of them, because the end that pops is never
+/// dropped here. Neither is a lack of memory, which ends the trial.
 #[derive(Clone, Copy, PartialEq, Eq)]
 pub enum Kind {
     Play,
@@ -175,7 +175,8 @@ impl Tally {
         None
     }
 
-    /// Prints to standard error how often each kind came and each rule was broken. Returns true if each kind came.
+    /// Prints to standard error how often each kind came and each rule was broken. Returns true
+    /// if each kind came.
     pub fn report<R: Eprint>(&self, rt: &R, method: &str) -> bool {
         report_counts(rt, method, &NAMES, &self.came);
         report_counts(rt, method, &RULE_NAMES, &self.broken);

@@ -16,7 +16,8 @@ use world_actions::Refusal;
 pub struct Odds {
     /// How many of a hundred calls of a file fail.
     pub fails: u64,
-    /// Each time a gate is asked it sticks with a chance of one in so many. If this is 0 none sticks.
+    /// Each time a gate is asked it sticks with a chance of one in so many. If this
+    /// is 0 none sticks.
     pub sticks: u64,
 }
 
@@ -28,8 +29,8 @@ impl Odds {
     };
 }
 
-/// The state that is kept from run to run: the random numbers, the model, the bytes that the last crash left, and the
-/// counts.
+/// The state that is kept from run to run: the random numbers, the model, the bytes that the last
+/// crash left, and the counts.
 #[derive(Drop)]
 pub struct Trial {
     pub alloc: Global,

@@ -16,7 +16,8 @@ const MOVES: u32 = 100;
 /// The last tick of the run.
 const LAST: u64 = 3;
 
-/// Lets the call of each keeper's move fail in turn, judges the answers after it, and crashes in each way.
+/// Lets the call of each keeper's move fail in turn, judges the answers after it, and
+/// crashes in each way.
 pub fn try_failures<C: Capture>(
     alloc: Global,
     steps: &[Step],

@@ -64,7 +64,8 @@ pub fn fixed_run<C: Capture>(alloc: Global) -> Result<(Vec<Step>, Shape), Refusa
     Ok((steps, shape))
 }
 
-/// The moves of a run whose log is left after: two ticks, and the round between them up to its image.
+/// The moves of a run whose log is left after: two ticks, and the round between them
+/// up to its image.
 pub fn run_before_the_log<C: Capture>(alloc: Global) -> Result<Vec<Step>, Refusal> {
     let mut steps = Vec::new(alloc);
     let mut run = Run::<C>::started(alloc)?;
@@ -94,8 +95,8 @@ fn add_parts<C: Capture>(run: &mut Run<C>, steps: &mut Vec<Step>) -> Result<Shap
     Ok(Shape { first, second })
 }
 
-// Adds these moves, and then moves of the images and of the log in turn. Those of a keeper are left out once it has nothing
-// to do.
+// Adds these moves, and then moves of the images and of the log in turn. Those of a keeper are left
+// out once it has nothing to do.
 fn add_part<C: Capture>(
     run: &mut Run<C>,
     moves: &[Step],
@@ -118,7 +119,8 @@ fn add_part<C: Capture>(
     Ok(made)
 }
 
-// Adds one more move of a keeper that has made so many. Returns None once the keeper has nothing to do.
+// Adds one more move of a keeper that has made so many. Returns None once the keeper
+// has nothing to do.
 fn added<C: Capture>(
     run: &mut Run<C>,
     step: Step,

@@ -1,8 +1,9 @@
-//! The program `trial_stops`: stops one run after each of its moves, by crashes of five kinds. The run has two ticks, a
-//! round, a third tick and another round. It is stopped again after each move of the restart. Each call of a device in the
-//! run fails in turn. A second run, whose log is left after, is stopped in the same way. The trial prints how often each
-//! tick was recovered after a crash. It fails if another one was, if a tick never was, or if a run has other moves than
-//! expected.
+//! The program `trial_stops`: stops one run after each of its moves, by crashes of five kinds.
+//! The run has two ticks, a round, a third tick and another round. It is stopped again after
+//! each move of the restart. Each call of a device in the run fails in turn. A second run, whose
+//! log is left after, is stopped in the same way. The trial prints how often each tick was
+//! recovered after a crash. It fails if another one was, if a tick never was, or if a run has
+//! other moves than expected.
 #![tactic(auto)]
 
 mod failures;
@@ -23,13 +24,15 @@ use trial_kit::{StopTally, exit_code_of};
 use world_actions::Refusal;
 use zigzag::Zigzag;
 
-/// How many moves the images and the log have in the first part of the run. Each is a call of a device or a take.
+/// How many moves the images and the log have in the first part of the run. Each is a call of a
+/// device or a take.
 const FIRST: (u32, u32) = (9, 12);
 
 /// How many they have in its second part, by Zigzag.
 const SECOND: (u32, u32) = (9, 10);
 
-/// How many they have in its second part, by Ping-Pong. It reads the cell that wasn't written since from the other image.
+/// How many they have in its second part, by Ping-Pong. It reads the cell that wasn't written since
+/// from the other image.
 const SECOND_BY_PING_PONG: (u32, u32) = (10, 10);
 
 /// How many moves the run has whose log is left after: six, and those of an image.

@@ -10,8 +10,8 @@ use world_core::{Answer, Core, Fate, Move};
 /// More moves than a start has.
 const MOVES: u32 = 100;
 
-/// A core of two cells, the number of ended ticks, the last acknowledged tick, and the tick of the newest image that is known
-/// to be open.
+/// A core of two cells, the number of ended ticks, the last acknowledged tick, and the tick of the
+/// newest image that is known to be open.
 #[derive(Drop)]
 pub struct Run<C: Capture> {
     core: Core<C>,
@@ -51,7 +51,8 @@ impl<C: Capture> Run<C> {
         }
     }
 
-    // Follows an answer of the images. An open image has all ticks up to its own, even if the log doesn't have them.
+    // Follows an answer of the images. An open image has all ticks up to its own, even if the log
+    // doesn't have them.
     fn follow_images(&mut self, given: ImageAnswer) -> ImageAnswer {
         match given {
             ImageAnswer::Opened(tick) => {
@@ -100,8 +101,8 @@ impl<C: Capture> Run<C> {
         most
     }
 
-    /// Crashes in this way, and recovers. Returns the recovered tick if it may be recovered, from this image, and its words
-    /// are right.
+    /// Crashes in this way, and recovers. Returns the recovered tick if it may be recovered, from
+    /// this image, and its words are right.
     pub fn crash(&mut self, leaving: Leaving) -> Result<Option<u64>, Refusal> {
         let left = self.core.remains(leaving)?;
         let Answer::Recovered { tick, from } = self.core.step(Move::Crash(left)) else {

@@ -37,8 +37,8 @@ pub fn try_stops<C: Capture>(
     Ok(())
 }
 
-// Stops the run after these moves, by a crash of this kind. It stops it again after each number of moves of the start, by
-// the same kind and by one that may open a gate.
+// Stops the run after these moves, by a crash of this kind. It stops it again after each number of
+// moves of the start, by the same kind and by one that may open a gate.
 fn try_stop<C: Capture>(
     alloc: Global,
     made: &[Step],

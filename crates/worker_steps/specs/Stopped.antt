@@ -19,9 +19,11 @@ use Rattle.workers.specs.Meeting.{HaveMet}
 
 -- ---- the world with which the workers began
 
--- From these first words, after these ticks, the files hold a world at rest with these words. Both keepers with their files
--- represent it.
-pub record WorldStands {D : Type 0} (file : D → List ℕ) (leaves : D → List ℕ → Type 0) (first : List ℕ) (ticks : List (List Action)) (words : List ℕ) (writer : ImageWriter D) (log : Log D) : Type 0 where
+-- From these first words, after these ticks, the files hold a world at rest with these words. Both
+-- keepers with their files represent it.
+pub record WorldStands {D : Type 0} (file : D → List ℕ) (leaves : D → List ℕ → Type 0)
+    (first : List ℕ) (ticks : List (List Action)) (words : List ℕ) (writer : ImageWriter D)
+    (log : Log D) : Type 0 where
   pub images : Images
   pub logs : Logs
   pub settled : IsSettled first ticks words images logs
@@ -40,28 +42,38 @@ abbrev pub acknowledged_by : {D : Type 0} → Imaging D → Logging D → ℕ
 acknowledged_by c w = max w.acked (newest_tick c.images.keeper.newest)
 
 module _ {D : Type 0} (file : D → List ℕ) (leaves : D → List ℕ → Type 0) where
-  -- All ticks are these, followed by those that the mutator pushed. Whatever a crash leaves of the four files, recovery
-  -- gives the world after the first n of them, for some n not below the greatest acknowledged tick. Each open image is the
-  -- world after its tick. The mutator counts as many ticks.
-  abbrev pub LeaveSound : (first : List ℕ) → (ticks : List (List Action)) → Playing → Imaging D → Logging D → Type 0
+  -- All ticks are these, followed by those that the mutator pushed. Whatever a crash leaves of
+  -- the four files, recovery gives the world after the first n of them, for some n not below
+  -- the greatest acknowledged tick. Each open image is the world after its tick. The mutator
+  -- counts as many ticks.
+  abbrev pub LeaveSound : (first : List ℕ) → (ticks : List (List Action)) → Playing
+      → Imaging D → Logging D → Type 0
   LeaveSound first ticks m c w =
       let all : List (List Action) = ticks ++ ticks_in (records_of m.to.items) in
-      IsSound (leaves c.images.image_a) (leaves c.images.image_b) (leaves w.log.a) (leaves w.log.b) first all (acknowledged_by c w) × (m.ended ≡ length all)
+      IsSound (leaves c.images.image_a) (leaves c.images.image_b) (leaves w.log.a) (leaves w.log.b)
+      first all (acknowledged_by c w) × (m.ended ≡ length all)
 
-  -- the files are sound, if these workers began with a world in their files and the first item is its start
+  -- the files are sound, if these workers began with a world in their files and the first
+  -- item is its start
   abbrev pub AreSound : Playing → Imaging D → Logging D → Type 0
   AreSound m c w =
-      (first : List ℕ) (ticks : List (List Action)) → WorldStands file leaves first ticks m.opening c.opening w.opening → BeginAt (length ticks) m.to.items
+      (first : List ℕ) (ticks : List (List Action))
+      → WorldStands file leaves first ticks m.opening c.opening w.opening
+      → BeginAt (length ticks) m.to.items
       → LeaveSound first ticks m c w
 
-  -- If the workers began with a world after these ticks in their files, the files are sound for those ticks and all that
-  -- were played.
-  abbrev pub StaysSound : (words : List ℕ) → ImageWriter D → Log D → (ended : ℕ) → Playing → Imaging D → Logging D → Type 0
+  -- If the workers began with a world after these ticks in their files, the files are sound for
+  -- those ticks and all that were played.
+  abbrev pub StaysSound : (words : List ℕ) → ImageWriter D → Log D → (ended : ℕ) → Playing
+      → Imaging D → Logging D → Type 0
   StaysSound words writer log ended m c w =
-      (first : List ℕ) (ticks : List (List Action)) → WorldStands file leaves first ticks words writer log → ended ≡ length ticks → LeaveSound first ticks m c w
+      (first : List ℕ) (ticks : List (List Action))
+      → WorldStands file leaves first ticks words writer log → ended ≡ length ticks
+      → LeaveSound first ticks m c w
 
   -- the files of workers that have met are sound, on disks that keep to the disk model
   abbrev pub StopsAreSound : (honest : Bool) → Type 0
   StopsAreSound honest =
       (m : Playing) (c : Imaging D) (w : Logging D)
-      → IsTrue honest → IsMutator m → IsCheckpointer honest file leaves c → IsLogging file leaves honest w → HaveMet m c w → AreSound m c w
+      → IsTrue honest → IsMutator m → IsCheckpointer honest file leaves c
+      → IsLogging file leaves honest w → HaveMet m c w → AreSound m c w

@@ -1,5 +1,5 @@
-//! The three workers of a world as they begin, and their steps in one thread. The steps are made one at a time, in any order
-//! of the workers. After each step the four files are sound.
+//! The three workers of a world as they begin, and their steps in one thread. The steps are made
+//! one at a time, in any order of the workers. After each step the four files are sound.
 #![tactic(auto)]
 
 mod laws;

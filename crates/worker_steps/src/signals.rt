@@ -5,8 +5,8 @@ use crossbeam_channel::{Receiver, Sender, bounded};
 use shared_capture::{SignalIn, SignalOut, signal_pair};
 use std::alloc::{AllocError, Global};
 
-/// The two ends of each signal: the bell that wakes the checkpointer, the word of the newest open image, and the word that
-/// says if the log is down.
+/// The two ends of each signal: the bell that wakes the checkpointer, the word of the newest open
+/// image, and the word that says if the log is down.
 #[derive(Drop)]
 pub struct Signals {
     pub bell: (Sender<()>, Receiver<()>),
@@ -31,7 +31,8 @@ impl Signals {
 
 // The two seats of a word.
 fn word(alloc: Global) -> Result<(SignalOut, SignalIn), AllocError>
-    ensures { IfOk result (λ pair. (pair.0.pair ≡ pair.1.pair) × (pair.0.ticks ≡ []) × (pair.1.ticks ≡ [])) }
+    ensures { IfOk result (λ pair. (pair.0.pair ≡ pair.1.pair)
+        × (pair.0.ticks ≡ []) × (pair.1.ticks ≡ [])) }
 {
     match signal_pair(alloc) {
         Ok(pair) => Ok(pair),

@@ -14,7 +14,8 @@ use workers::{Checkpointer, Gate, LogWriter, Mutator};
 /// Runs the next batch, if there is one, and owes its tick.
 pub fn play<R: Wait, M: Method, G: Gate + Drop>(rt: &R, mutator: &mut Mutator<M, G>)
     ensures keeps { KeepsFront mutator.old mutator.new }
-    ensures made { MayPlay (MayGo G.answers Tick) (MayStick G.answers Tick) mutator.old mutator.new }
+    ensures made { MayPlay (MayGo G.answers Tick) (MayStick G.answers Tick)
+        mutator.old mutator.new }
 {
     let _ = mutator.run_next(rt);
 }

@@ -39,7 +39,8 @@ impl<M: Method, D: Disk + Drop, A: Gate + Drop, B: Gate + Drop, C: Gate + Drop> 
     B,
     C,
 > {
-    /// The workers of a world as they begin. The mutator takes these asks. A round is due after every `every` ticks.
+    /// The workers of a world as they begin. The mutator takes these asks. A round is due after
+    /// every `every` ticks.
     pub fn begin<R: Wait>(
         rt: &R,
         alloc: Global,
@@ -48,11 +49,18 @@ impl<M: Method, D: Disk + Drop, A: Gate + Drop, B: Gate + Drop, C: Gate + Drop> 
         asks: AskReceiver,
         every: u32,
     ) -> Result<Self, AllocError>
-        requires { IsWhole D.honest D.content opened.front opened.back opened.images opened.log opened.ended }
-        ensures begun { IfOk result (λ made. IsBegun opened.front opened.back opened.images opened.log opened.ended every
-            (record { mutator = made.mutator; checkpointer = made.checkpointer; log_writer = made.log_writer })) }
+        requires { IsWhole D.honest D.content opened.front opened.back opened.images
+            opened.log opened.ended }
+        ensures begun { IfOk result (λ made.
+            IsBegun opened.front opened.back opened.images opened.log opened.ended every
+            (record {
+              mutator = made.mutator;
+              checkpointer = made.checkpointer;
+              log_writer = made.log_writer;
+            })) }
         ensures asks { IfOk result (λ made. made.mutator.asks ≡ asks) }
-        ensures images_rest { IfOk result (λ made. IsResting made.checkpointer.images.keeper made.checkpointer.back) }
+        ensures images_rest { IfOk result (λ made.
+            IsResting made.checkpointer.images.keeper made.checkpointer.back) }
         ensures log_rests { IfOk result (λ made. IsAtRest made.log_writer) }
     {
         let signals = Signals::new(alloc)?;
@@ -92,14 +100,28 @@ impl<M: Method, D: Disk + Drop, A: Gate + Drop, B: Gate + Drop, C: Gate + Drop> 
         })
     }
 
-    /// Makes the step. Whatever the steps before it were, the four files are sound after it, on disks that keep to the disk
-    /// model. For this the workers meet after the step. A server's workers meet only once they have stopped.
+    /// Makes the step. Whatever the steps before it were, the four files are sound after it, on
+    /// disks that keep to the disk model. For this the workers meet after the step. A server's
+    /// workers meet only once they have stopped.
     pub fn step<R: Wait>(&mut self, rt: &R, next: Next)
-        ensures made { (mid : Started D) × Makes A.answers B.answers C.answers D.called D.faults next
-            (record { mutator = self.old.mutator; checkpointer = self.old.checkpointer; log_writer = self.old.log_writer }) mid
-            × Meets mid (record { mutator = self.new.mutator; checkpointer = self.new.checkpointer; log_writer = self.new.log_writer }) }
-        ensures sound { IsTrue D.honest → AreSound D.content D.may_leave self.new.mutator self.new.checkpointer self.new.log_writer }
-        ensures posted { self.new.log_writer.answers.posted ≤ acknowledged_by self.new.checkpointer self.new.log_writer }
+        ensures made { (mid : Started D)
+            × Makes A.answers B.answers C.answers D.called D.faults next
+            (record {
+              mutator = self.old.mutator;
+              checkpointer = self.old.checkpointer;
+              log_writer = self.old.log_writer;
+            }) mid
+            × Meets
+            mid (record {
+              mutator = self.new.mutator;
+              checkpointer = self.new.checkpointer;
+              log_writer = self.new.log_writer;
+            }) }
+        ensures sound { IsTrue D.honest
+            → AreSound D.content D.may_leave self.new.mutator
+            self.new.checkpointer self.new.log_writer }
+        ensures posted { self.new.log_writer.answers.posted
+            ≤ acknowledged_by self.new.checkpointer self.new.log_writer }
         ensures in_turn { PlaysInTurn self.new.mutator.asks.taken self.new.mutator.to.items }
         ensures mutator { KeepsFront self.old.mutator self.new.mutator }
         ensures checkpointer { KeepsBack self.old.checkpointer self.new.checkpointer }
@@ -109,10 +131,14 @@ impl<M: Method, D: Disk + Drop, A: Gate + Drop, B: Gate + Drop, C: Gate + Drop> 
         self.meet();
     }
 
-    /// Makes these steps, one after the other. The files are sound after them, and after each beginning of the list.
+    /// Makes these steps, one after the other. The files are sound after them, and after each
+    /// beginning of the list.
     pub fn run<R: Wait>(&mut self, rt: &R, steps: Vec<Next>)
-        ensures sound { IsTrue D.honest → AreSound D.content D.may_leave self.new.mutator self.new.checkpointer self.new.log_writer }
-        ensures posted { self.new.log_writer.answers.posted ≤ acknowledged_by self.new.checkpointer self.new.log_writer }
+        ensures sound { IsTrue D.honest
+            → AreSound D.content D.may_leave self.new.mutator
+            self.new.checkpointer self.new.log_writer }
+        ensures posted { self.new.log_writer.answers.posted
+            ≤ acknowledged_by self.new.checkpointer self.new.log_writer }
         ensures mutator { KeepsFront self.old.mutator self.new.mutator }
         ensures checkpointer { KeepsBack self.old.checkpointer self.new.checkpointer }
         ensures log_writer { KeepsLog self.old.log_writer self.new.log_writer }
@@ -126,8 +152,16 @@ impl<M: Method, D: Disk + Drop, A: Gate + Drop, B: Gate + Drop, C: Gate + Drop> 
     // One worker makes the step, and the others stay as they are.
     fn make_step<R: Wait>(&mut self, rt: &R, next: Next)
         ensures made { Makes A.answers B.answers C.answers D.called D.faults next
-            (record { mutator = self.old.mutator; checkpointer = self.old.checkpointer; log_writer = self.old.log_writer })
-            (record { mutator = self.new.mutator; checkpointer = self.new.checkpointer; log_writer = self.new.log_writer }) }
+            (record {
+              mutator = self.old.mutator;
+              checkpointer = self.old.checkpointer;
+              log_writer = self.old.log_writer;
+            })
+            (record {
+              mutator = self.new.mutator;
+              checkpointer = self.new.checkpointer;
+              log_writer = self.new.log_writer;
+            }) }
         ensures mutator { KeepsFront self.old.mutator self.new.mutator }
         ensures checkpointer { KeepsBack self.old.checkpointer self.new.checkpointer }
         ensures log_writer { KeepsLog self.old.log_writer self.new.log_writer }
@@ -143,13 +177,25 @@ impl<M: Method, D: Disk + Drop, A: Gate + Drop, B: Gate + Drop, C: Gate + Drop> 
         }
     }
 
-    // Each worker learns what the others did. Nothing else of the workers changes, and nothing of the files.
+    // Each worker learns what the others did. Nothing else of the workers changes, and
+    // nothing of the files.
     fn meet(&mut self)
-        ensures sound { IsTrue D.honest → AreSound D.content D.may_leave self.new.mutator self.new.checkpointer self.new.log_writer }
-        ensures posted { self.new.log_writer.answers.posted ≤ acknowledged_by self.new.checkpointer self.new.log_writer }
+        ensures sound { IsTrue D.honest
+            → AreSound D.content D.may_leave self.new.mutator
+            self.new.checkpointer self.new.log_writer }
+        ensures posted { self.new.log_writer.answers.posted
+            ≤ acknowledged_by self.new.checkpointer self.new.log_writer }
         ensures in_turn { PlaysInTurn self.new.mutator.asks.taken self.new.mutator.to.items }
-        ensures meets { Meets (record { mutator = self.old.mutator; checkpointer = self.old.checkpointer; log_writer = self.old.log_writer })
-            (record { mutator = self.new.mutator; checkpointer = self.new.checkpointer; log_writer = self.new.log_writer }) }
+        ensures meets { Meets (record {
+          mutator = self.old.mutator;
+          checkpointer = self.old.checkpointer;
+          log_writer = self.old.log_writer;
+        })
+            (record {
+              mutator = self.new.mutator;
+              checkpointer = self.new.checkpointer;
+              log_writer = self.new.log_writer;
+            }) }
         ensures mutator { KeepsFront self.old.mutator self.new.mutator }
         ensures checkpointer { KeepsBack self.old.checkpointer self.new.checkpointer }
         ensures log_writer { KeepsLog self.old.log_writer self.new.log_writer }
@@ -163,9 +209,9 @@ impl<M: Method, D: Disk + Drop, A: Gate + Drop, B: Gate + Drop, C: Gate + Drop> 
     }
 }
 
-/// Runs a world by these steps of its workers, whatever the steps are. The mutator takes these asks. Recovery after a crash
-/// then gives the world after the ticks with which the workers began and the first of those that were played. No
-/// acknowledged tick is lost.
+/// Runs a world by these steps of its workers, whatever the steps are. The mutator takes these
+/// asks. Recovery after a crash then gives the world after the ticks with which the workers began
+/// and the first of those that were played. No acknowledged tick is lost.
 pub fn run_world<
     R: Wait,
     M: Method,
@@ -182,7 +228,8 @@ pub fn run_world<
     every: u32,
     steps: Vec<Next>,
 ) -> Result<Together<M, D, A, B, C>, AllocError>
-    requires { IsWhole D.honest D.content opened.front opened.back opened.images opened.log opened.ended }
+    requires { IsWhole D.honest D.content opened.front opened.back opened.images
+        opened.log opened.ended }
     ensures sound { IsTrue D.honest → IfOk result (λ world.
         StaysSound D.content D.may_leave opened.front.live opened.images opened.log opened.ended
         world.mutator world.checkpointer world.log_writer) }

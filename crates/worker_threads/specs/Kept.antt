@@ -21,7 +21,8 @@ MayWrite w = IsAtRest w × (w.over ≡ false)
 -- the last item that the mutator pushed is the end, unless a push was refused
 pub record StopsFront (old new : Playing) : Type 0 where
   pub keeps : KeepsFront old new
-  pub stops : (new.to.refused ≡ true) ⊎ ((before : List Item) × (new.to.items ≡ before ++ Stop ∷ []))
+  pub stops : (new.to.refused ≡ true)
+      ⊎ ((before : List Item) × (new.to.items ≡ before ++ Stop ∷ []))
 
 -- no round comes any more, or the checkpointer is down
 pub record StopsBack {D : Type 0} (old new : Imaging D) : Type 0 where

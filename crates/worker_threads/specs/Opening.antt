@@ -5,4 +5,5 @@ use Rattle.workers.specs.declared.log_writer.Log.{Log}
 
 -- the four files of these two keepers
 abbrev pub files_of : {D : Type 0} → ImageWriter D → Log D → FourFiles D
-files_of writer log = record { image_a = writer.image_a; image_b = writer.image_b; log_a = log.a; log_b = log.b }
+files_of writer log =
+    record { image_a = writer.image_a; image_b = writer.image_b; log_a = log.a; log_b = log.b }

@@ -14,10 +14,11 @@ use std::thread::Threads;
 use worker_steps::{Gates, Opened};
 use workers::{AskChannel, Cut, Looks};
 
-/// Starts the workers of a world, gives `play` the channel of their batches, and waits until the workers have ended. They
-/// end once the channel and its sessions are gone. Each worker makes as many steps as its cut says, and none after them. Wherever
-/// the three workers are held, the files are sound for the ticks that were there and those that were pushed, on disks that
-/// keep to the disk model.
+/// Starts the workers of a world, gives `play` the channel of their batches, and waits until the
+/// workers have ended. They end once the channel and its sessions are gone. Each worker makes as
+/// many steps as its cut says, and none after them. Wherever the three workers are held, the
+/// files are sound for the ticks that were there and those that were pushed, on disks that keep
+/// to the disk model.
 pub fn stop_after<
     R: Threads + Wait + Copy + Send + 'static,
     M: Method + Send + 'static,
@@ -33,7 +34,8 @@ pub fn stop_after<
     every: u32,
     play: F,
 ) -> Result<StoppedWorkers<M, D, Cut, Cut, Cut>, NotStarted>
-    requires whole { IsWhole D.honest D.content opened.front opened.back opened.images opened.log opened.ended }
+    requires whole { IsWhole D.honest D.content opened.front opened.back opened.images
+        opened.log opened.ended }
     requires plays { F.IsAlwaysCallable play }
     ensures sound { IsTrue D.honest → IfOk result (λ stopped.
         StaysSound D.content D.may_leave opened.front.live opened.images opened.log opened.ended

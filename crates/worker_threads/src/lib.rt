@@ -1,5 +1,5 @@
-//! The workers of a world, each in its own thread: their start, the work of each until it ends, and their ends.
-//! `start_world` opens a world for them that was recovered from its four files.
+//! The workers of a world, each in its own thread: their start, the work of each until it ends, and
+//! their ends. `start_world` opens a world for them that was recovered from its four files.
 #![tactic(auto)]
 
 mod cuts;

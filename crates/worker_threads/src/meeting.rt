@@ -10,16 +10,22 @@ use shared_capture::Method;
 use worker_steps::stops_are_sound;
 use workers::{Gate, meet_workers};
 
-/// Brings the ends of a world's workers together. Then, on disks that keep to the disk model, the four files are sound for
-/// the ticks with which the workers began and those that they played. No acknowledged tick can be lost. Each session's
-/// batches were taken in its order, none left out, and played at most once.
+/// Brings the ends of a world's workers together. Then, on disks that keep to the disk model, the
+/// four files are sound for the ticks with which the workers began and those that they played. No
+/// acknowledged tick can be lost. Each session's batches were taken in its order, none left out,
+/// and played at most once.
 pub fn meet_stopped<M: Method, D: Disk + Drop, A: Gate + Drop, B: Gate + Drop, C: Gate + Drop>(
     stopped: &mut StoppedWorkers<M, D, A, B, C>,
 )
-    ensures sound { IsTrue D.honest → AreSound D.content D.may_leave stopped.new.mutator stopped.new.checkpointer stopped.new.log_writer }
+    ensures sound { IsTrue D.honest
+        → AreSound D.content D.may_leave stopped.new.mutator
+        stopped.new.checkpointer stopped.new.log_writer }
     ensures in_turn { PlaysInTurn stopped.new.mutator.asks.taken stopped.new.mutator.to.items }
-    ensures mutator { stopped.new.mutator ≡ record stopped.old.mutator { front = record stopped.old.mutator.front { closed = stopped.new.mutator.front.closed } } }
-    ensures checkpointer { stopped.new.checkpointer ≡ record stopped.old.checkpointer { back = stopped.new.checkpointer.back; over = true } }
+    ensures mutator { stopped.new.mutator ≡ record stopped.old.mutator {
+      front = record stopped.old.mutator.front { closed = stopped.new.mutator.front.closed };
+    } }
+    ensures checkpointer { stopped.new.checkpointer
+        ≡ record stopped.old.checkpointer { back = stopped.new.checkpointer.back; over = true } }
     ensures back { MetBack stopped.old.checkpointer.back stopped.new.checkpointer.back }
     ensures log_writer { stopped.new.log_writer ≡ stopped.old.log_writer }
     ensures heard { HeardOnlyOfDown stopped.new.mutator.heard.ticks stopped.new.log_writer.down }

@@ -10,7 +10,8 @@ use std::sync::Wait;
 use workers::{Checkpointer, Gate, LogWriter, Mutator};
 
 #[tactic(auto, using(crate::proofs::Keeping::begins))]
-// Runs the batches of the sessions until the last one is gone. Then the other workers learn that no more comes.
+// Runs the batches of the sessions until the last one is gone. Then the other workers learn
+// that no more comes.
 fn play_batches<R: Wait, M: Method, G: Gate + Drop, W: TickWatch>(
     rt: &R,
     watch: &mut W,

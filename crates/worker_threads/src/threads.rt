@@ -45,7 +45,8 @@ impl From<AllocError> for NotStarted {
     }
 }
 
-/// The workers of a world, each in its thread. Contracts see them as they began. If this is dropped, they run on.
+/// The workers of a world, each in its thread. Contracts see them as they began. If this is
+/// dropped, they run on.
 #[derive(Drop)]
 pub struct Workers<M: Method, D: Disk + Drop, A: Gate + Drop, B: Gate + Drop, C: Gate + Drop> {
     mutator: PromisedHandle<Mutator<M, A>, SameMutator<M, A>>,
@@ -59,9 +60,18 @@ impl<M: Method, D: Disk + Drop, A: Gate + Drop, B: Gate + Drop, C: Gate + Drop> 
 
     ghost Value = { Started D };
 
-    ghost view = { λ w. record { mutator = w.mutator.promise.0.value; checkpointer = w.checkpointer.promise.0.value; log_writer = w.log_writer.promise.0.value } };
+    ghost view = { λ w. record {
+      mutator = w.mutator.promise.0.value;
+      checkpointer = w.checkpointer.promise.0.value;
+      log_writer = w.log_writer.promise.0.value;
+    } };
 
-    ghost invariant = { λ w. AreTogether (record { mutator = w.mutator.promise.0.value; checkpointer = w.checkpointer.promise.0.value; log_writer = w.log_writer.promise.0.value }) };
+    ghost invariant = { λ w.
+        AreTogether (record {
+          mutator = w.mutator.promise.0.value;
+          checkpointer = w.checkpointer.promise.0.value;
+          log_writer = w.log_writer.promise.0.value;
+        }) };
 }
 
 /// The workers of a world once they have ended.
@@ -90,7 +100,8 @@ impl<M: Method, D: Disk + Drop, A: Gate + Drop, B: Gate + Drop, C: Gate + Drop> 
     B,
     C,
 > {
-    /// The greatest tick that is acknowledged: by a receipt of the log, or by an image that was opened.
+    /// The greatest tick that is acknowledged: by a receipt of the log, or by an image
+    /// that was opened.
     pub fn acked(&self) -> u64
         ensures { result ≡ acknowledged_by self.now.checkpointer self.now.log_writer }
     {
@@ -107,8 +118,9 @@ type Players<M, D, A, B> = (
     PromisedHandle<Checkpointer<M, D, B>, SameCheckpointer<M, D, B>>,
 );
 
-/// Starts the workers of a world. A round is due after every `every` ticks. The batches that the sessions of the returned
-/// channel send are run. The workers look for work by these looks. If the start is refused, no thread is left running.
+/// Starts the workers of a world. A round is due after every `every` ticks. The batches that the
+/// sessions of the returned channel send are run. The workers look for work by these looks. If the
+/// start is refused, no thread is left running.
 pub fn start<
     R: Threads + Wait + Copy + Send + 'static,
     M: Method + Send + 'static,
@@ -126,8 +138,10 @@ pub fn start<
     every: u32,
     looks: Looks,
 ) -> Result<(Workers<M, D, A, B, C>, AskChannel), NotStarted>
-    requires { IsWhole D.honest D.content opened.front opened.back opened.images opened.log opened.ended }
-    ensures begun { IfOk result (λ made. IsBegun opened.front opened.back opened.images opened.log opened.ended every made.0) }
+    requires { IsWhole D.honest D.content opened.front opened.back opened.images
+        opened.log opened.ended }
+    ensures begun { IfOk result (λ made.
+        IsBegun opened.front opened.back opened.images opened.log opened.ended every made.0) }
     ensures asks { IfOk result (λ made. AreOneAskChannel made.0.mutator.asks.end made.1.end) }
     ensures sessions { IfOk result (λ made. made.1.next ≡ 0) }
 {
@@ -166,7 +180,8 @@ fn start_threads<
     requires flag { mutator.heard.pair ≡ log_writer.reported_down.pair }
     requires takes { MayTake checkpointer }
     requires writes { MayWrite log_writer }
-    ensures { IfOk result (λ workers. workers ≡ record { mutator = mutator; checkpointer = checkpointer; log_writer = log_writer }) }
+    ensures { IfOk result (λ workers. workers
+        ≡ record { mutator = mutator; checkpointer = checkpointer; log_writer = log_writer }) }
 {
     let watch_too = watch.clone()?;
     let log_writer = start_log_writer(rt, watch_too, log_writer)?;

@@ -1,13 +1,15 @@
 use disk_model::Disk;
 use workers::{ImageWriter, Log};
 
-/// Gets the reports of the mutator, in the mutator's own thread. No call may wait, since that holds up each batch.
+/// Gets the reports of the mutator, in the mutator's own thread. No call may wait, since that
+/// holds up each batch.
 pub trait TickWatch {
     /// So many ticks have ended. It is called after each batch, even after one that was refused.
     fn ticks_ended(&mut self, ticks: u64);
 }
 
-/// Gets the reports of the workers, each in the worker's own thread. No call may wait, since that holds up the worker.
+/// Gets the reports of the workers, each in the worker's own thread. No call may wait, since that
+/// holds up the worker.
 pub trait Watch<D: Disk + Drop>: TickWatch {
     /// The image of this tick was opened.
     fn image_opened(&mut self, tick: u64);

@@ -5,7 +5,8 @@ use crate::threads::NotStarted;
 use std::sync::Wait;
 use std::thread::{self, Promise, PromisedHandle, Threads};
 
-/// The work of a worker in its thread, from its start to its end. `X` is what the worker gets there.
+/// The work of a worker in its thread, from its start to its end. `X` is what the
+/// worker gets there.
 pub(crate) trait Work<X> {
     /// The condition for its start.
     ghost ready: { Self → Type 0 };

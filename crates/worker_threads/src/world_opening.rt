@@ -1,4 +1,5 @@
-ghost use Rattle.std.specs.Prelude.{◌≡◌, ◌⊎◌, ℕ, List, false, length, All, IsTrue, IfOk, IfErr, MatchResult};
+ghost use Rattle.std.specs.Prelude.{◌≡◌, ◌⊎◌, ℕ, List, false, length, All, IsTrue, IfOk, IfErr};
+ghost use Rattle.std.specs.Prelude.{MatchResult};
 ghost use Rattle.world_actions.specs.World.{IsWord};
 ghost use Rattle.world_actions.specs.declared.action.Action.{Action};
 ghost use Rattle.disk_model.specs.FourFiles.{fault_counts};
@@ -43,8 +44,9 @@ impl Seats for Pong {
     }
 }
 
-/// Opens a world for its workers that was recovered from these files, and runs its start to the end. The front keeps the
-/// list of the recovered words. If it is refused, it gives the files back: they still recover to that world.
+/// Opens a world for its workers that was recovered from these files, and runs its start to the
+/// end. The front keeps the list of the recovered words. If it is refused, it gives the files back:
+/// they still recover to that world.
 pub fn start_world<M: Seats, C: Capture, D: Disk + Drop>(
     alloc: Global,
     begun: Start<C>,
@@ -55,7 +57,8 @@ pub fn start_world<M: Seats, C: Capture, D: Disk + Drop>(
         IsWhole D.honest D.content opened.front opened.back opened.images opened.log opened.ended) }
     ensures words { IfOk result (λ opened. opened.front.live ≡ begun.words.items) }
     ensures ended { IfOk result (λ opened. opened.ended ≡ begun.engine.ended) }
-    ensures stands { IsTrue D.honest → IfOk result (λ opened. (first : List ℕ) (ticks : List (List Action)) (acknowledged : ℕ)
+    ensures stands { IsTrue D.honest
+        → IfOk result (λ opened. (first : List ℕ) (ticks : List (List Action)) (acknowledged : ℕ)
         → Follows C.content D.content D.may_leave begun.engine files first ticks acknowledged
         → WorldStands D.content D.may_leave first ticks opened.front.live opened.images opened.log
         × (opened.ended ≡ length ticks)) }
@@ -63,9 +66,11 @@ pub fn start_world<M: Seats, C: Capture, D: Disk + Drop>(
         → (first : List ℕ) (ticks : List (List Action)) (acknowledged : ℕ)
         → Follows C.content D.content D.may_leave begun.engine files first ticks acknowledged
         → MatchResult result
-        (λ opened. AreSound D.content D.may_leave (files_of opened.images opened.log) first ticks acknowledged)
+        (λ opened. AreSound D.content D.may_leave (files_of opened.images opened.log)
+        first ticks acknowledged)
         (λ refused. AreSound D.content D.may_leave refused.0 first ticks acknowledged) }
-    ensures refused { IfErr result (λ refused. (refused.1 ≡ Refusal.NoMemory) ⊎ (refused.1 ≡ Refusal.Device)) }
+    ensures refused { IfErr result (λ refused. (refused.1 ≡ Refusal.NoMemory)
+        ⊎ (refused.1 ≡ Refusal.Device)) }
     ensures device { IfErr result (λ refused. refused.1 ≡ Refusal.Device
         → SomeGrew (fault_counts D.faults files) (fault_counts D.faults refused.0)) }
 {
@@ -97,9 +102,11 @@ fn seated<M: Seats, D: Disk + Drop>(
     ensures ended { IfOk result (λ opened. opened.ended ≡ parts.ended) }
     ensures files { IfOk result (λ opened. files_of opened.images opened.log ≡ parts.files) }
     ensures settled { IfOk result (λ opened. (first : List ℕ) (ticks : List (List Action))
-        → AreSettled D.content D.may_leave parts first ticks → WorldStands D.content D.may_leave first ticks opened.front.live opened.images opened.log
+        → AreSettled D.content D.may_leave parts first ticks
+        → WorldStands D.content D.may_leave first ticks opened.front.live opened.images opened.log
         × (opened.ended ≡ length ticks)) }
-    ensures refused { IfErr result (λ refused. (refused.0 ≡ parts.files) × (refused.1 ≡ Refusal.NoMemory)) }
+    ensures refused { IfErr result (λ refused. (refused.0 ≡ parts.files)
+        × (refused.1 ≡ Refusal.NoMemory)) }
 {
     let Parts {
         words,

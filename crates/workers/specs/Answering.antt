@@ -4,7 +4,8 @@ use Rattle.workers.specs.declared.item.Item.{Item}
 use Rattle.workers.specs.declared.item.Item.TheVariants.{Tick}
 use Rattle.workers.specs.Posts.{Unposted}
 
--- the answers that wait, how many may wait, the last tick that was answered, and the last one that a post answered
+-- the answers that wait, how many may wait, the last tick that was answered, and the last one
+-- that a post answered
 pub record Answering : Type 0 where
   pub waiting : List Unposted
   pub room : ℕ

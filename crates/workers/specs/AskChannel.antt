@@ -31,7 +31,8 @@ pub record IsNumbering (end : AskSendEnd) (pass : Pass AskedBatch AskView) (next
   pub numbers : view pass ≡ Numbers next
 
 -- the session of this number sent so many asks
-pub record IsSession (end : AskSendEnd) (pass : Pass AskedBatch AskView) (session asked : ℕ) : Type 0 where
+pub record IsSession (end : AskSendEnd) (pass : Pass AskedBatch AskView)
+    (session asked : ℕ) : Type 0 where
   pub at : IsSeatAt (sends_on end.end) pass
   pub sends : view pass ≡ Sends session asked
 

@@ -15,9 +15,12 @@ pub record AskerState : Type 0 where
 abbrev pub IsAsked : (old new : AskerState) → Type 0
 IsAsked old new = new ≡ record old { asked = old.asked + 1 }
 
--- a post of the session's last ask, which was for these requests, at a later tick than its last post
+-- a post of the session's last ask, which was for these requests, at a later tick
+-- than its last post
 abbrev pub IsNewPost : AskerState → List Request → Posted → Type 0
-IsNewPost asker requests post = (post.asked ≡ record { session = asker.session; ask = asker.asked; requests = requests }) × (asker.posted < post.tick)
+IsNewPost asker requests post =
+    (post.asked ≡ record { session = asker.session; ask = asker.asked; requests = requests })
+    × (asker.posted < post.tick)
 
 -- a fault of the session's last ask
 abbrev pub IsFaultOf : AskerState → Fault → Type 0
@@ -26,4 +29,5 @@ IsFaultOf asker fault = (fault.session ≡ asker.session) × (fault.ask ≡ aske
 -- the session's next ask was not sent: the mutator is gone, or no number of 64 bits is left for it
 abbrev pub IsUnsent : AskerState → Fault → Type 0
 IsUnsent asker fault = (fault.session ≡ asker.session)
-    × (((fault.ask ≡ asker.asked + 1) × (fault.reason ≡ LogDown)) ⊎ ((asker.asked + 1 ≡ 2 ^ 64) × (fault.reason ≡ TicksEnded)))
+    × (((fault.ask ≡ asker.asked + 1) × (fault.reason ≡ LogDown))
+    ⊎ ((asker.asked + 1 ≡ 2 ^ 64) × (fault.reason ≡ TicksEnded)))

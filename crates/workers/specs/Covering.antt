@@ -14,12 +14,13 @@ BeginsAt ticks [] = ⊥
 BeginsAt ticks (records.Tick tick ∷ queue) = ⊥
 BeginsAt ticks (records.Switch tick ∷ queue) = Contains ticks tick
 
--- The logged records are in the order of all records. A record may be left out only if the next logged one is a switch at
--- one of these ticks.
+-- The logged records are in the order of all records. A record may be left out only if the next
+-- logged one is a switch at one of these ticks.
 abbrev pub LeavesOut : List ℕ → (all logged : List Record) → Type 0
 LeavesOut ticks [] logged = logged ≡ []
 LeavesOut ticks (first ∷ all) logged =
-    ((rest : List Record) × (logged ≡ first ∷ rest) × LeavesOut ticks all rest) ⊎ (BeginsAt ticks logged × LeavesOut ticks all logged)
+    ((rest : List Record) × (logged ≡ first ∷ rest) × LeavesOut ticks all rest)
+    ⊎ (BeginsAt ticks logged × LeavesOut ticks all logged)
 
 -- one of these ticks isn't below this one
 abbrev pub IsCovered : List ℕ → ℕ → Type 0
@@ -27,7 +28,8 @@ IsCovered ticks number = (tick : ℕ) × Contains ticks tick × (number ≤ tick
 
 -- the log advances by a step of its keeper, or by a cover of this tick
 abbrev pub Advances : ℕ → Logs → List Record → LogAnswer → Logs → List Record → Type 0
-Advances tick logs queue given next left = LogsStep logs queue given next left ⊎ ((next ≡ logs) × CoverStep logs queue tick given left)
+Advances tick logs queue given next left =
+    LogsStep logs queue given next left ⊎ ((next ≡ logs) × CoverStep logs queue tick given left)
 
 -- the word of open images was loaded, and held this tick
 abbrev pub loaded : SignalState → ℕ → SignalState

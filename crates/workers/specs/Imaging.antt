@@ -1,5 +1,6 @@
 -- The checkpointer as contracts see it: its images are those of the rounds that its back has done.
-use Rattle.std.specs.Prelude.{◌≡◌, ◌≢◌, ◌⊎◌, ℕ, ◌<◌, Bool, true, false, IsTrue, All, List, [], ◌∷◌, ◌++◌, length, Option, Some}
+use Rattle.std.specs.Prelude.{◌≡◌, ◌≢◌, ◌⊎◌, ℕ, ◌<◌, Bool, true, false, IsTrue, All, List, [], ◌∷◌}
+use Rattle.std.specs.Prelude.{◌++◌, length, Option, Some}
 use Rattle.disk_model.specs.Disk.{FaultsBy}
 use Rattle.file_format.specs.declared.slot.Slot.{Slot}
 use Rattle.image_files.specs.declared.phase.Phase.{Phase}
@@ -19,19 +20,24 @@ use Rattle.workers.specs.Publishing.{IsNoneDue, reported, ArePublished}
 
 -- ---- the images of rounds
 
--- a round of the back as a round of the image files: a cell that is unchanged has the newest image's word
+-- a round of the back as a round of the image files: a cell that is unchanged has the
+-- newest image's word
 abbrev pub round_of : Snapshot → ImageFiles → Round
-round_of snapshot images = record { tick = snapshot.tick; taken = filled_words snapshot.taken (words_of images) }
+round_of snapshot images =
+    record { tick = snapshot.tick; taken = filled_words snapshot.taken (words_of images) }
 
 -- the images while this round is in work
 abbrev pub with_work : Snapshot → ImageFiles → ImageFiles
-with_work snapshot (NoneYet images) = NoneYet (record { round = Some (round_of snapshot (NoneYet images)) })
-with_work snapshot (Newest images) = Newest (record images { round = Some (round_of snapshot (Newest images)) })
+with_work snapshot (NoneYet images) =
+    NoneYet (record { round = Some (round_of snapshot (NoneYet images)) })
+with_work snapshot (Newest images) =
+    Newest (record images { round = Some (round_of snapshot (Newest images)) })
 
 -- the images once these rounds are done, one after the other
 abbrev pub images_after : ImageFiles → List Snapshot → ImageFiles
 images_after images [] = images
-images_after images (snapshot ∷ rest) = images_after (with_opened (round_of snapshot images) images) rest
+images_after images (snapshot ∷ rest) =
+    images_after (with_opened (round_of snapshot images) images) rest
 
 -- the newest image's file and its tick once these rounds are done
 abbrev pub newest_after : Option (Slot × ℕ) → List Snapshot → Option (Slot × ℕ)
@@ -58,7 +64,8 @@ pub record AreInStep (keeper : Progress) (back : BackState) : Type 0 where
 -- one more round is done, of this tick and with each cell taken
 abbrev pub IsDone : BackState → (tick : ℕ) → BackState → Type 0
 IsDone old tick new =
-    (snapshot : Snapshot) × (snapshot.tick ≡ tick) × (length snapshot.taken ≡ old.cells) × (new.done ≡ old.done ++ snapshot ∷ []) × (new.working ≡ false)
+    (snapshot : Snapshot) × (snapshot.tick ≡ tick) × (length snapshot.taken ≡ old.cells)
+    × (new.done ≡ old.done ++ snapshot ∷ []) × (new.working ≡ false)
 
 -- the round is still in work
 abbrev pub IsInWork : BackState → (tick : ℕ) → BackState → Type 0
@@ -69,8 +76,8 @@ pub record Publishes (tick : ℕ) (keeper : Progress) (old new : SignalState) : 
   pub in_work : HasRound keeper → new ≡ old
   pub done : keeper.phase ≡ Idle → new ≡ reported old tick
 
--- A round stays in work as long as the keeper has one, and is done once the keeper has none. The pair, the number of cells
--- and the loads of the phase stay the same.
+-- A round stays in work as long as the keeper has one, and is done once the keeper has none. The
+-- pair, the number of cells and the loads of the phase stay the same.
 pub record RoundRuns (old : BackState) (keeper : Progress) (new : BackState) : Type 0 where
   pub same : (new.pair ≡ old.pair) × (new.cells ≡ old.cells) × (new.loads ≡ old.loads)
   pub in_work : HasRound keeper → IsInWork old old.now.tick new
@@ -81,19 +88,26 @@ pub record RoundRuns (old : BackState) (keeper : Progress) (new : BackState) : T
 module _ {D : Type 0} (file : D → List ℕ) (leaves : D → List ℕ → Type 0) where
   -- the keeper and its files represent these images
   abbrev pub ImagesStand : ImageWriter D → ImageFiles → Type 0
-  ImagesStand writer images = Stands writer.keeper images (file writer.image_a) (file writer.image_b) (leaves writer.image_a) (leaves writer.image_b)
+  ImagesStand writer images =
+      Stands writer.keeper images (file writer.image_a) (file writer.image_b)
+      (leaves writer.image_a) (leaves writer.image_b)
 
-  -- they represent the images of the rounds that the back has done since the first ones, and its round in work
-  pub record StandAfter (first : ImageFiles) (writer : ImageWriter D) (back : BackState) : Type 0 where
+  -- they represent the images of the rounds that the back has done since the first ones, and
+  -- its round in work
+  pub record StandAfter (first : ImageFiles) (writer : ImageWriter D)
+      (back : BackState) : Type 0 where
     pub rest : writer.keeper.phase ≡ Idle → ImagesStand writer (images_after first back.done)
-    pub round : HasRound writer.keeper → ImagesStand writer (with_work back.now (images_after first back.done))
+    pub round : HasRound writer.keeper
+        → ImagesStand writer (with_work back.now (images_after first back.done))
 
-  -- Each round that is done since the opening had all its cells taken and its image opened. On an honest disk the files have
-  -- exactly these images.
-  pub record FollowsRounds (honest : Bool) (opening : ImageWriter D) (writer : ImageWriter D) (back : BackState) : Type 0 where
+  -- Each round that is done since the opening had all its cells taken and its image opened. On an
+  -- honest disk the files have exactly these images.
+  pub record FollowsRounds (honest : Bool) (opening : ImageWriter D) (writer : ImageWriter D)
+      (back : BackState) : Type 0 where
     pub newest : writer.keeper.newest ≡ newest_after opening.keeper.newest back.done
     pub whole : All (λ (s : Snapshot). length s.taken ≡ back.cells) back.done
-    pub stands : IsTrue honest → (first : ImageFiles) → ImagesStand opening first → StandAfter first writer back
+    pub stands : IsTrue honest → (first : ImageFiles) → ImagesStand opening first
+        → StandAfter first writer back
 
 -- the keeper's state fits what the files hold
 abbrev pub WriterFits : {D : Type 0} → (D → List ℕ) → ImageWriter D → Type 0
@@ -101,13 +115,17 @@ WriterFits file writer = FitsFiles writer.keeper (file writer.image_a) (file wri
 
 -- the keeper is down only by a failed call of a device, and no failure is passed over
 pub record ReportsFaults {D : Type 0} (faults : D → ℕ) (old new : ImageWriter D) : Type 0 where
-  pub down : new.keeper.phase ≡ Down → FaultsBy true (faults old.image_a) (faults new.image_a) (faults old.image_b) (faults new.image_b)
-  pub up : (new.keeper.phase ≡ Down → ⊥) → FaultsBy false (faults old.image_a) (faults new.image_a) (faults old.image_b) (faults new.image_b)
+  pub down : new.keeper.phase ≡ Down
+      → FaultsBy true (faults old.image_a) (faults new.image_a)
+      (faults old.image_b) (faults new.image_b)
+  pub up : (new.keeper.phase ≡ Down → ⊥)
+      → FaultsBy false (faults old.image_a) (faults new.image_a)
+      (faults old.image_b) (faults new.image_b)
 
 -- ---- the checkpointer
 
--- The back that it takes from, and the ticks that it published. Its keeper and files now, and those at its opening. Its flag
--- that it does no more.
+-- The back that it takes from, and the ticks that it published. Its keeper and files now, and those
+-- at its opening. Its flag that it does no more.
 pub record Imaging (D : Type 0) : Type 0 where
   pub back : BackState
   pub covers : SignalState
@@ -119,10 +137,11 @@ pub record Imaging (D : Type 0) : Type 0 where
 abbrev pub IsAtRest : Progress → BackState → Type 0
 IsAtRest keeper back = (keeper.phase ≡ Idle) × (back.working ≡ false)
 
--- Keeper, files and back are in step, with as many cells as at the opening. The images of the rounds that are done are
--- published. No cell is taken of a round that the keeper hasn't begun. A round that it has begun is newer than its newest
--- image.
-pub record IsCheckpointer {D : Type 0} (honest : Bool) (file : D → List ℕ) (leaves : D → List ℕ → Type 0) (c : Imaging D) : Type 0 where
+-- Keeper, files and back are in step, with as many cells as at the opening. The images of the
+-- rounds that are done are published. No cell is taken of a round that the keeper hasn't begun. A
+-- round that it has begun is newer than its newest image.
+pub record IsCheckpointer {D : Type 0} (honest : Bool) (file : D → List ℕ)
+    (leaves : D → List ℕ → Type 0) (c : Imaging D) : Type 0 where
   pub step : AreInStep c.images.keeper c.back
   pub cells : c.opening.keeper.cells ≡ c.back.cells
   pub fits : IsTrue honest → WriterFits file c.images
@@ -131,22 +150,27 @@ pub record IsCheckpointer {D : Type 0} (honest : Bool) (file : D → List ℕ) (
   pub fresh : c.images.keeper.phase ≡ Idle → c.back.working ≡ true → c.back.now.taken ≡ []
   pub newer : HasRound c.images.keeper → newest_tick c.images.keeper.newest < c.back.now.tick
 
--- The open round of this tick was found. Either it is done, or it stays open and the checkpointer does no more. In that case
--- no image is made of this tick. Or its image was begun, and a call of a device failed or the gate lets no other be made.
+-- The open round of this tick was found. Either it is done, or it stays open and the checkpointer
+-- does no more. In that case no image is made of this tick. Or its image was begun, and a call of a
+-- device failed or the gate lets no other be made.
 abbrev pub Found : {D : Type 0} → (stuck : Type 0) → Imaging D → (tick : ℕ) → Imaging D → Type 0
 Found stuck old tick new =
     (tick ≢ 0) × (new.back.loads ≡ old.back.loads ++ tick ∷ [])
     × (((new.over ≡ false) × IsDone old.back tick new.back)
     ⊎ ((new.over ≡ true) × IsInWork old.back tick new.back
-    × (IsNoneDue old.images.keeper.newest tick ⊎ (HasRound new.images.keeper × ((new.images.keeper.phase ≡ Down) ⊎ stuck)))))
+    × (IsNoneDue old.images.keeper.newest tick
+    ⊎ (HasRound new.images.keeper × ((new.images.keeper.phase ≡ Down) ⊎ stuck)))))
 
--- The effect of a turn. It loaded the phase, found no round open and changed nothing else, or it found an open round.
+-- The effect of a turn. It loaded the phase, found no round open and changed nothing else, or it
+-- found an open round.
 abbrev pub Turned : {D : Type 0} → (stuck : Type 0) → Imaging D → Imaging D → Type 0
 Turned stuck old new =
-    ((new.images ≡ old.images) × SameDone old.back new.back × (new.back.working ≡ false) × (new.back.loads ≡ old.back.loads ++ 0 ∷ []))
+    ((new.images ≡ old.images) × SameDone old.back new.back × (new.back.working ≡ false)
+    × (new.back.loads ≡ old.back.loads ++ 0 ∷ []))
     ⊎ ((tick : ℕ) × Found stuck old tick new)
 
--- the checkpointer stays at its back and at its word, and knows the keeper and the files that it began with
+-- the checkpointer stays at its back and at its word, and knows the keeper and the files
+-- that it began with
 pub record KeepsBack {D : Type 0} (old new : Imaging D) : Type 0 where
   pub pair : new.back.pair ≡ old.back.pair
   pub cells : new.back.cells ≡ old.back.cells
@@ -162,7 +186,9 @@ place_of phase = Device
 
 -- a look found no round
 abbrev pub FindsNone : {D : Type 0} → Imaging D → Imaging D → Type 0
-FindsNone old new = (new ≡ record old { back = new.back }) × SameDone old.back new.back × (old.back.working ≡ false → FoundNone old.back new.back)
+FindsNone old new =
+    (new ≡ record old { back = new.back }) × SameDone old.back new.back
+    × (old.back.working ≡ false → FoundNone old.back new.back)
 
 -- a look found the round of this tick: its image is begun, or none is made of it
 pub record FindsRound {D : Type 0} (old : Imaging D) (number : ℕ) (new : Imaging D) : Type 0 where
@@ -171,14 +197,18 @@ pub record FindsRound {D : Type 0} (old : Imaging D) (number : ℕ) (new : Imagi
   pub working : new.back.working ≡ true
   pub tick : new.back.now.tick ≡ number
   pub covers : new.covers ≡ old.covers
-  pub begins : ((new.over ≡ true) × (new.images ≡ old.images) × IsNoneDue old.images.keeper.newest number)
-      ⊎ ((new.over ≡ false) × (new.images ≡ record old.images { keeper = begun_keeper number old.images.keeper }))
+  pub begins :
+      ((new.over ≡ true) × (new.images ≡ old.images) × IsNoneDue old.images.keeper.newest number)
+      ⊎ ((new.over ≡ false)
+      × (new.images ≡ record old.images { keeper = begun_keeper number old.images.keeper }))
 
--- The round in work continues, if the gate lets it, or is done. It stays in work if the checkpointer does no more, because a
--- call of a device failed or the gate lets no other be made.
-pub record GoesOn {D : Type 0} (go stuck : Type 0) (faults : D → ℕ) (old new : Imaging D) : Type 0 where
+-- The round in work continues, if the gate lets it, or is done. It stays in work if the
+-- checkpointer does no more, because a call of a device failed or the gate lets no other be made.
+pub record GoesOn {D : Type 0} (go stuck : Type 0) (faults : D → ℕ)
+    (old new : Imaging D) : Type 0 where
   pub runs : RoundRuns old.back new.images.keeper new.back
   pub failures : ReportsFaults faults old.images new.images
   pub asks : (new.images ≡ old.images) ⊎ go
-  pub over : new.over ≡ true → HasRound new.images.keeper × ((new.images.keeper.phase ≡ Down) ⊎ stuck)
+  pub over : new.over ≡ true
+      → HasRound new.images.keeper × ((new.images.keeper.phase ≡ Down) ⊎ stuck)
   pub up : new.over ≡ false → new.images.keeper.phase ≢ Down

@@ -18,11 +18,14 @@ abbrev pub records_of : List Item → List Record
 records_of [] = []
 records_of (item ∷ items) = record_of item ++ records_of items
 
--- An item may follow so many ticks since this base. No segment gets too many ticks, and a tick has the next number. A switch
--- has the number of the last tick, which ended since the last switch or start.
+-- An item may follow so many ticks since this base. No segment gets too many ticks, and a tick
+-- has the next number. A switch has the number of the last tick, which ended since the last
+-- switch or start.
 abbrev pub Goes : QueueEnd → Item → Type 0
 Goes end (Start number) = ⊥
-Goes end (Tick ended) = (end.count < SEGMENT_TICKS) × (end.base + end.count < TICK_MAX) × (ended.answer.number ≡ end.base + end.count + 1)
+Goes end (Tick ended) =
+    (end.count < SEGMENT_TICKS) × (end.base + end.count < TICK_MAX)
+    × (ended.answer.number ≡ end.base + end.count + 1)
 Goes end (Switch number) = (number ≡ end.base + end.count) × (1 ≤ end.count)
 Goes end Stop = ⊤
 

@@ -13,9 +13,9 @@ use Rattle.workers.specs.Logging.{Logging}
 abbrev pub HeardOnlyOfDown : (heard : List ℕ) → (down : Bool) → Type 0
 HeardOnlyOfDown heard down = (i flag : ℕ) → slice_get heard i ≡ Some flag → 1 ≤ flag → down ≡ true
 
--- The rounds that were taken are those that were marked, with the round in work. The popped items are a beginning of the
--- pushed ones, each where it may be. Each loaded value except 0 was stored: the ticks of images, and the report that the log
--- is down.
+-- The rounds that were taken are those that were marked, with the round in work. The popped items
+-- are a beginning of the pushed ones, each where it may be. Each loaded value except 0 was stored:
+-- the ticks of images, and the report that the log is down.
 pub record HaveMet {D : Type 0} (m : Playing) (c : Imaging D) (w : Logging D) : Type 0 where
   pub agree : Agree m.front.rounds (snapshots c.back)
   pub level : KnowsOpen m.front.closed m.front c.back

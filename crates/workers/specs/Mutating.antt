@@ -1,11 +1,14 @@
 -- The mutator as contracts see it, and the effect of its turn.
-use Rattle.std.specs.Prelude.{◌≡◌, ◌⊎◌, ℕ, ◌+◌, ◌<◌, ◌≤◌, Bool, true, false, List, [], ◌∷◌, ◌++◌, All, Contains, Option, Some, None, IfSome, MatchOption, Result, MatchResult}
+use Rattle.std.specs.Prelude.{◌≡◌, ◌⊎◌, ℕ, ◌+◌, ◌<◌, ◌≤◌, Bool, true, false, List, [], ◌∷◌, ◌++◌}
+use Rattle.std.specs.Prelude.{All, Contains, Option, Some, None, IfSome, MatchOption, Result}
+use Rattle.std.specs.Prelude.{MatchResult}
 use Rattle.world_actions.specs.declared.refusal.Refusal.{Refusal}
 use Rattle.world_actions.specs.declared.refusal.Refusal.TheVariants.{LogDown, Busy}
 use Rattle.world_ticks.specs.declared.tick.TheConstants.{TICK_MAX}
 use Rattle.shared_capture.specs.declared.view.Round.{Round}
 use Rattle.shared_capture.specs.SignalWord.{SignalState}
-use Rattle.shared_capture.specs.States.{FrontState, HasFlags, KeepsUntouched, SameWords, marked_rounds, IsRefused}
+use Rattle.shared_capture.specs.States.{FrontState, HasFlags, KeepsUntouched, SameWords}
+use Rattle.shared_capture.specs.States.{marked_rounds, IsRefused}
 use Rattle.workers.specs.declared.item.Ended.{Ended}
 use Rattle.workers.specs.declared.item.Item.{Item}
 use Rattle.workers.specs.declared.item.Item.TheVariants.{Tick, Switch, Stop}
@@ -15,11 +18,13 @@ use Rattle.workers.specs.AskOrder.{asks_of, IsBefore, PlaysInTurn}
 use Rattle.workers.specs.AskChannel.{Taking, with_ask}
 use Rattle.workers.specs.Channel.{Pushing, with_item, with_refusal}
 use Rattle.workers.specs.Covering.{loaded}
-use Rattle.workers.specs.Worlds.{Leads, begun, AreUnchanged, History, Counts, RanBatch, IsRefusedTick, world_of}
+use Rattle.workers.specs.Worlds.{Leads, begun, AreUnchanged, History, Counts, RanBatch}
+use Rattle.workers.specs.Worlds.{IsRefusedTick, world_of}
 
--- Its ends of the channels of asks and of items, its front, and the word by which it hears that the log is down. The words
--- that it began with. How many ticks ended, how many of them since the last switch or start, and after how many a round is
--- due. Its flag that it has stopped, and the item that it owes, if any.
+-- Its ends of the channels of asks and of items, its front, and the word by which it hears that the
+-- log is down. The words that it began with. How many ticks ended, how many of them since the last
+-- switch or start, and after how many a round is due. Its flag that it has stopped, and the item
+-- that it owes, if any.
 pub record Playing : Type 0 where
   pub asks : Taking
   pub front : FrontState
@@ -32,22 +37,26 @@ pub record Playing : Type 0 where
   pub stopped : Bool
   pub owed : Option Item
 
--- It owes this item, which may be pushed next and states what the front did since the last push. Until then it has stopped.
+-- It owes this item, which may be pushed next and states what the front did since the last push.
+-- Until then it has stopped.
 pub record Owes (m : Playing) (item : Item) : Type 0 where
   pub stopped : m.stopped ≡ true
   pub goes : Goes (items_end m.to.items) item
   pub leads : Leads (begun m.opening) (m.to.items ++ item ∷ []) (world_of m.front)
   pub in_turn : PlaysInTurn m.asks.taken (m.to.items ++ item ∷ [])
-  pub rising : All (λ (r : Round). r.tick ≤ (end_after (items_end m.to.items) item).base) m.front.rounds
+  pub rising : All (λ (r : Round). r.tick ≤ (end_after (items_end m.to.items) item).base)
+      m.front.rounds
 
--- The pushed items state what its front did, and its counts are those of the pushed items. Each session's batches were played
--- once, in its order. Unless it has stopped, each round is of a tick up to the last switch. In each round, and in one that is
--- marked now, the untouched cells have the words of the round before.
+-- The pushed items state what its front did, and its counts are those of the pushed items. Each
+-- session's batches were played once, in its order. Unless it has stopped, each round is of a tick
+-- up to the last switch. In each round, and in one that is marked now, the untouched cells have the
+-- words of the round before.
 pub record IsMutator (m : Playing) : Type 0 where
   pub history : History m.opening m.to.items m.stopped m.front
   pub in_turn : PlaysInTurn m.asks.taken m.to.items
   pub counts : Counts (items_end m.to.items) m.ended m.since
-  pub rising : m.stopped ≡ false → All (λ (r : Round). r.tick ≤ (items_end m.to.items).base) m.front.rounds
+  pub rising : m.stopped ≡ false
+      → All (λ (r : Round). r.tick ≤ (items_end m.to.items).base) m.front.rounds
   pub most : m.ended ≤ TICK_MAX
   pub flags : HasFlags m.front
   pub unchanged : AreUnchanged m.opening (marked_rounds m.front 0)
@@ -61,24 +70,31 @@ IsEarly m = (m.since ≡ 0) ⊎ (m.since < m.every)
 
 -- the round of the ended ticks was opened
 abbrev pub OpensRound : Playing → FrontState → Type 0
-OpensRound old front = SameWords old.front front × (front.rounds ≡ marked_rounds old.front old.ended) × HasFlags front
+OpensRound old front =
+    SameWords old.front front × (front.rounds ≡ marked_rounds old.front old.ended) × HasFlags front
 
 -- the last round is of this tick
 abbrev pub IsLastRound : FrontState → ℕ → Type 0
-IsLastRound front tick = (before : List Round) × (r : Round) × (front.rounds ≡ before ++ r ∷ []) × (r.tick ≡ tick)
+IsLastRound front tick =
+    (before : List Round) × (r : Round) × (front.rounds ≡ before ++ r ∷ []) × (r.tick ≡ tick)
 
 -- a round was open
 abbrev pub FindsRound : Playing → Playing → Type 0
-FindsRound old new = (new ≡ record old { front = new.front }) × SameWords old.front new.front × IsRefused old.front Busy new.front
+FindsRound old new =
+    (new ≡ record old { front = new.front }) × SameWords old.front new.front
+    × IsRefused old.front Busy new.front
 
 -- a round was opened, and its switch pushed directly after
 abbrev pub Marks : Playing → Playing → Type 0
-Marks old new = (new ≡ record old { front = new.front; to = new.to; since = 0 }) × OpensRound old new.front
+Marks old new =
+    (new ≡ record old { front = new.front; to = new.to; since = 0 }) × OpensRound old new.front
     × (new.to ≡ with_item old.to (Switch old.ended))
 
 -- a round was opened, and the push of its switch was refused
 abbrev pub LosesSwitch : Playing → Playing → Type 0
-LosesSwitch old new = (new ≡ record old { front = new.front; to = with_refusal old.to; stopped = true }) × OpensRound old new.front
+LosesSwitch old new =
+    (new ≡ record old { front = new.front; to = with_refusal old.to; stopped = true })
+    × OpensRound old new.front
 
 -- no round was due, or one was open
 abbrev pub OpensNone : Playing → Playing → Type 0
@@ -87,11 +103,15 @@ OpensNone old new = ((new ≡ old) × ((old.stopped ≡ true) ⊎ IsEarly old)) 
 -- a round was opened, and its switch is owed
 abbrev pub OwesSwitch : Playing → Playing → Type 0
 OwesSwitch old new =
-    (old.stopped ≡ false) × (old.owed ≡ None) × (new ≡ record old { front = new.front; stopped = true; owed = Some (Switch old.ended) }) × OpensRound old new.front
+    (old.stopped ≡ false) × (old.owed ≡ None)
+    × (new ≡ record old { front = new.front; stopped = true; owed = Some (Switch old.ended) })
+    × OpensRound old new.front
 
 -- if a round is due and none is open, it is opened
 abbrev pub MarksIfDue : Playing → Playing → Type 0
-MarksIfDue old new = ((new ≡ old) × ((old.stopped ≡ true) ⊎ IsEarly old)) ⊎ (FindsRound old new ⊎ (Marks old new ⊎ LosesSwitch old new))
+MarksIfDue old new =
+    ((new ≡ old) × ((old.stopped ≡ true) ⊎ IsEarly old))
+    ⊎ (FindsRound old new ⊎ (Marks old new ⊎ LosesSwitch old new))
 
 -- ---- a batch
 
@@ -101,10 +121,13 @@ TakesAsk old asked new = new ≡ record old { asks = with_ask old.asks asked }
 
 -- This batch was taken last, and no tick is of it, or of a later one of its session.
 abbrev pub IsTaken : Playing → AskedBatch → Type 0
-IsTaken m asked = Contains m.asks.taken asked × All (λ (earlier : AskedBatch). IsBefore earlier asked) (asks_of m.to.items)
+IsTaken m asked =
+    Contains m.asks.taken asked
+    × All (λ (earlier : AskedBatch). IsBefore earlier asked) (asks_of m.to.items)
 
 -- this batch was run as the next tick, and the answer is for this very batch
-pub record Runs (old : Playing) (asked : AskedBatch) (ended : Ended) (front : FrontState) : Type 0 where
+pub record Runs (old : Playing) (asked : AskedBatch) (ended : Ended)
+    (front : FrontState) : Type 0 where
   pub number : ended.answer.number ≡ old.ended + 1
   pub answers : ended.answer.asked ≡ asked
   pub pair : front.pair ≡ old.front.pair
@@ -113,39 +136,70 @@ pub record Runs (old : Playing) (asked : AskedBatch) (ended : Ended) (front : Fr
 
 -- the log wasn't reported to be down, and the tick was pushed
 abbrev pub PushesTick : Playing → AskedBatch → Playing → Type 0
-PushesTick old asked new = (new ≡ record old { front = new.front; to = new.to; heard = loaded old.heard 0; ended = old.ended + 1; since = old.since + 1 })
+PushesTick old asked new =
+    (new ≡ record old {
+      front = new.front;
+      to = new.to;
+      heard = loaded old.heard 0;
+      ended = old.ended + 1;
+      since = old.since + 1;
+    })
     × ((ended : Ended) × Runs old asked ended new.front × (new.to ≡ with_item old.to (Tick ended)))
 
 -- the push of the tick was refused
 abbrev pub LosesTick : Playing → AskedBatch → Playing → Type 0
-LosesTick old asked new = (new ≡ record old { front = new.front; to = with_refusal old.to; heard = loaded old.heard 0; stopped = true }) × ((ended : Ended) × Runs old asked ended new.front)
+LosesTick old asked new =
+    (new ≡ record old {
+      front = new.front;
+      to = with_refusal old.to;
+      heard = loaded old.heard 0;
+      stopped = true;
+    }) × ((ended : Ended) × Runs old asked ended new.front)
 
 -- the log wasn't reported to be down, the batch was run, and its tick is owed
 abbrev pub OwesTick : Playing → AskedBatch → Playing → Type 0
 OwesTick old asked new = (old.owed ≡ None)
-    × ((ended : Ended) × Runs old asked ended new.front × (new ≡ record old { front = new.front; heard = loaded old.heard 0; stopped = true; owed = Some (Tick ended) }))
+    × ((ended : Ended) × Runs old asked ended new.front
+    × (new ≡ record old {
+      front = new.front;
+      heard = loaded old.heard 0;
+      stopped = true;
+      owed = Some (Tick ended);
+    }))
 
 -- the log was reported to be down
 abbrev pub HearsDown : Playing → Refusal → Playing → Type 0
-HearsDown old reason new = (flag : ℕ) × (1 ≤ flag) × (new ≡ record old { heard = loaded old.heard flag }) × (reason ≡ LogDown)
+HearsDown old reason new =
+    (flag : ℕ) × (1 ≤ flag)
+    × (new ≡ record old { heard = loaded old.heard flag }) × (reason ≡ LogDown)
 
--- Nothing was run. Either no tick may end or memory was refused, or the log was reported to be down. Or the mutator has
--- stopped, or stops here because its gate never lets another batch run.
+-- Nothing was run. Either no tick may end or memory was refused, or the log was reported to be
+-- down. Or the mutator has stopped, or stops here because its gate never lets another batch run.
 abbrev pub RefusesBatch : (stuck : Type 0) → Playing → Refusal → Playing → Type 0
 RefusesBatch stuck old reason new =
-    ((new ≡ record old { heard = loaded old.heard 0 }) × IsRefusedTick false old.ended old.since reason)
-    ⊎ (HearsDown old reason new ⊎ ((new ≡ record old { stopped = true }) × (reason ≡ LogDown) × ((old.stopped ≡ true) ⊎ stuck)))
+    ((new ≡ record old { heard = loaded old.heard 0 })
+    × IsRefusedTick false old.ended old.since reason)
+    ⊎ (HearsDown old reason new
+    ⊎ ((new ≡ record old { stopped = true }) × (reason ≡ LogDown) × ((old.stopped ≡ true) ⊎ stuck)))
 
 -- a batch is run, if the mutator hasn't stopped and the gate lets it, or it is refused
-abbrev pub AnswersBatch : (go stuck : Type 0) → Playing → AskedBatch → Result (Unit {0}) Refusal → Playing → Type 0
-AnswersBatch go stuck old asked given new = MatchResult given (λ _. go × (old.stopped ≡ false) × (PushesTick old asked new ⊎ LosesTick old asked new)) (λ reason. RefusesBatch stuck old reason new)
+abbrev pub AnswersBatch : (go stuck : Type 0) → Playing → AskedBatch
+    → Result (Unit {0}) Refusal → Playing → Type 0
+AnswersBatch go stuck old asked given new =
+    MatchResult given (λ _. go × (old.stopped ≡ false)
+    × (PushesTick old asked new ⊎ LosesTick old asked new))
+    (λ reason. RefusesBatch stuck old reason new)
 
 -- the same, except that the tick is owed
-abbrev pub RunsBatch : (go stuck : Type 0) → Playing → AskedBatch → Result (Unit {0}) Refusal → Playing → Type 0
-RunsBatch go stuck old asked given new = MatchResult given (λ _. go × (old.stopped ≡ false) × OwesTick old asked new) (λ reason. RefusesBatch stuck old reason new)
+abbrev pub RunsBatch : (go stuck : Type 0) → Playing → AskedBatch
+    → Result (Unit {0}) Refusal → Playing → Type 0
+RunsBatch go stuck old asked given new =
+    MatchResult given (λ _. go × (old.stopped ≡ false) × OwesTick old asked new)
+    (λ reason. RefusesBatch stuck old reason new)
 
 -- the next batch was taken, and run or refused
-pub record Plays (go stuck : Type 0) (old : Playing) (asked : AskedBatch) (given : Result (Unit {0}) Refusal) (new : Playing) : Type 0 where
+pub record Plays (go stuck : Type 0) (old : Playing) (asked : AskedBatch)
+    (given : Result (Unit {0}) Refusal) (new : Playing) : Type 0 where
   pub taken : Playing
   pub takes : TakesAsk old asked taken
   pub runs : RunsBatch go stuck taken asked given new
@@ -155,10 +209,17 @@ pub record Plays (go stuck : Type 0) (old : Playing) (asked : AskedBatch) (given
 -- this item was pushed and counts, or its push was refused; it is owed no more
 abbrev pub PaysItem : Playing → Item → Playing → Type 0
 PaysItem old (Tick ended) new =
-    (new ≡ record old { to = with_item old.to (Tick ended); ended = old.ended + 1; since = old.since + 1; stopped = false; owed = None })
+    (new ≡ record old {
+      to = with_item old.to (Tick ended);
+      ended = old.ended + 1;
+      since = old.since + 1;
+      stopped = false;
+      owed = None;
+    })
     ⊎ (new ≡ record old { to = with_refusal old.to; owed = None })
 PaysItem old (Switch number) new =
-    (new ≡ record old { to = with_item old.to (Switch number); since = 0; stopped = false; owed = None })
+    (new
+    ≡ record old { to = with_item old.to (Switch number); since = 0; stopped = false; owed = None })
     ⊎ (new ≡ record old { to = with_refusal old.to; owed = None })
 PaysItem old item new = new ≡ record old { owed = None }
 
@@ -168,8 +229,10 @@ Pays old new = MatchOption old.owed (new ≡ old) (λ item. PaysItem old item ne
 
 -- ---- a turn
 
--- the next batch was taken, and it was run or refused, with a mark before it and after it if one is due
-pub record Turns (go stuck : Type 0) (old : Playing) (asked : AskedBatch) (given : Result (Unit {0}) Refusal) (new : Playing) : Type 0 where
+-- the next batch was taken, and it was run or refused, with a mark before it and after
+-- it if one is due
+pub record Turns (go stuck : Type 0) (old : Playing) (asked : AskedBatch)
+    (given : Result (Unit {0}) Refusal) (new : Playing) : Type 0 where
   pub taken : Playing
   pub before : Playing
   pub after : Playing
@@ -182,4 +245,6 @@ pub record Turns (go stuck : Type 0) (old : Playing) (asked : AskedBatch) (given
 
 -- the last item was pushed, or its push was refused
 abbrev pub StopsPlay : Playing → Playing → Type 0
-StopsPlay old new = (new ≡ record old { to = with_item old.to Stop }) ⊎ (new ≡ record old { to = with_refusal old.to; stopped = true })
+StopsPlay old new =
+    (new ≡ record old { to = with_item old.to Stop })
+    ⊎ (new ≡ record old { to = with_refusal old.to; stopped = true })

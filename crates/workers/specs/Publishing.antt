@@ -1,5 +1,7 @@
--- The reports of the checkpointer to the log writer: the tick of each image, once the image is open.
-use Rattle.std.specs.Prelude.{◌≡◌, ◌⊎◌, ℕ, ◌<◌, ◌≤◌, All, List, [], ◌∷◌, ◌++◌, map, Option, Some, slice_get}
+-- The reports of the checkpointer to the log writer: the tick of each image, once the
+-- image is open.
+use Rattle.std.specs.Prelude.{◌≡◌, ◌⊎◌, ℕ, ◌<◌, ◌≤◌, All, List, [], ◌∷◌, ◌++◌, map, Option, Some}
+use Rattle.std.specs.Prelude.{slice_get}
 use Rattle.world_ticks.specs.declared.tick.TheConstants.{TICK_MAX}
 use Rattle.file_format.specs.declared.slot.Slot.{Slot}
 use Rattle.image_files.specs.Progress.{newest_tick}
@@ -19,8 +21,9 @@ pub record IsNext (covers : SignalState) (tick : ℕ) : Type 0 where
 abbrev pub reported : SignalState → ℕ → SignalState
 reported covers tick = record covers { ticks = covers.ticks ++ tick ∷ [] }
 
--- the ticks of the rounds that are done were published, each once and in order, and no other; none is newer than the
--- newest image
-pub record ArePublished (newest : Option (Slot × ℕ)) (done : List Snapshot) (covers : SignalState) : Type 0 where
+-- the ticks of the rounds that are done were published, each once and in order, and no other; none
+-- is newer than the newest image
+pub record ArePublished (newest : Option (Slot × ℕ)) (done : List Snapshot)
+    (covers : SignalState) : Type 0 where
   pub are : covers.ticks ≡ map (λ (s : Snapshot). s.tick) done
   pub older : All (λ (tick : ℕ). tick ≤ newest_tick newest) covers.ticks

@@ -1,5 +1,6 @@
 //! The way of the batches from the sessions to the mutator.
-ghost use Rattle.std.specs.Prelude.{◌≡◌, ◌+◌, ◌++◌, ◌∷◌, [], IfOk, IfSome, IsNone, MatchOption, MatchResult};
+ghost use Rattle.std.specs.Prelude.{◌≡◌, ◌+◌, ◌++◌, ◌∷◌, [], IfOk, IfSome, IsNone, MatchOption};
+ghost use Rattle.std.specs.Prelude.{MatchResult};
 ghost use Rattle.crossbeam_channel.specs.Ends.{sends_on, ruled_capacity};
 ghost use Rattle.workers.specs.AskOrder.{AreNumbered};
 ghost use Rattle.workers.specs.AskChannel.{AreOneAskChannel, with_ask};
@@ -14,8 +15,8 @@ use std::marker::Model;
 use std::sync::Wait;
 use std::thread;
 
-// How many batches may wait for the mutator. A session has one at a time. If there is no room, the session sleeps and the
-// mutator has to wake it, which takes longer than a batch.
+// How many batches may wait for the mutator. A session has one at a time. If there is no room, the
+// session sleeps and the mutator has to wake it, which takes longer than a batch.
 const ASKS: usize = 1_024;
 
 #[derive(Drop)]
@@ -28,7 +29,8 @@ pub struct AskReceiveEnd {
     end: RuledReceiver<Ask, AskView, InTurn>,
 }
 
-/// The sessions' end of the channel to the mutator. It gives each session its number: 0, 1 and so on.
+/// The sessions' end of the channel to the mutator. It gives each session its number:
+/// 0, 1 and so on.
 #[derive(Drop)]
 pub struct AskChannel {
     end: AskSendEnd,
@@ -51,7 +53,8 @@ impl Model for AskChannel {
 pub struct AskReceiver {
     end: AskReceiveEnd,
     pass: Pass<Ask, AskView>,
-    /// How often it looks for an ask before it sleeps. If this is `None`, it waits as the channel does.
+    /// How often it looks for an ask before it sleeps. If this is `None`, it waits as
+    /// the channel does.
     looks: Option<Looks>,
 }
 
@@ -90,10 +93,13 @@ impl AskChannel {
         ))
     }
 
-    /// The asker of the next session. `None` if there is no memory, or no number of 64 bits is left.
+    /// The asker of the next session. `None` if there is no memory, or no number of
+    /// 64 bits is left.
     pub fn session(&mut self) -> Option<Asker>
-        ensures number { IfSome result (λ asker. asker ≡ record { session = self.old.next; asked = 0; posted = 0 }) }
-        ensures counts { IfSome result (λ asker. self.new ≡ record self.old { next = self.old.next + 1 }) }
+        ensures number { IfSome result (λ asker. asker
+            ≡ record { session = self.old.next; asked = 0; posted = 0 }) }
+        ensures counts { IfSome result (λ asker. self.new
+            ≡ record self.old { next = self.old.next + 1 }) }
         ensures unchanged { IsNone result → self.new ≡ self.old }
     {
         let next = self.next.checked_add(1)?;
@@ -125,7 +131,8 @@ impl AskReceiver {
 
     /// Waits for the next ask. Returns `None` if no session is left that could ask.
     pub fn next<R: Wait>(&mut self, rt: &R) -> Option<Ask>
-        ensures taken { MatchOption result (self.new ≡ self.old) (λ ask. self.new ≡ with_ask self.old ask) }
+        ensures taken { MatchOption result (self.new ≡ self.old)
+            (λ ask. self.new ≡ with_ask self.old ask) }
         ensures numbered { IfSome result (λ ask. AreNumbered (self.old.taken ++ ask ∷ [])) }
     {
         for _ in 0..self.looks() {
@@ -140,7 +147,8 @@ impl AskReceiver {
 
     /// Takes the next ask, if there is one.
     pub fn try_next<R: Wait>(&mut self, rt: &R) -> Option<Ask>
-        ensures taken { MatchOption result (self.new ≡ self.old) (λ ask. self.new ≡ with_ask self.old ask) }
+        ensures taken { MatchOption result (self.new ≡ self.old)
+            (λ ask. self.new ≡ with_ask self.old ask) }
         ensures numbered { IfSome result (λ ask. AreNumbered (self.old.taken ++ ask ∷ [])) }
     {
         self.try_take(rt).ok()
@@ -148,7 +156,8 @@ impl AskReceiver {
 
     // Takes the next ask, and sleeps while there is none.
     fn sleep<R: Wait>(&mut self, rt: &R) -> Result<Ask, RecvError>
-        ensures taken { MatchResult result (λ ask. self.new ≡ with_ask self.old ask) (λ _. self.new ≡ self.old) }
+        ensures taken { MatchResult result (λ ask. self.new ≡ with_ask self.old ask)
+            (λ _. self.new ≡ self.old) }
         ensures numbered { IfOk result (λ ask. AreNumbered (self.old.taken ++ ask ∷ [])) }
     {
         self.end.end.recv_as::<TakeAsk, R>(rt, &mut self.pass)
@@ -156,7 +165,8 @@ impl AskReceiver {
 
     // Takes the next ask, or says why there is none.
     fn try_take<R: Wait>(&mut self, rt: &R) -> Result<Ask, TryRecvError>
-        ensures taken { MatchResult result (λ ask. self.new ≡ with_ask self.old ask) (λ _. self.new ≡ self.old) }
+        ensures taken { MatchResult result (λ ask. self.new ≡ with_ask self.old ask)
+            (λ _. self.new ≡ self.old) }
         ensures numbered { IfOk result (λ ask. AreNumbered (self.old.taken ++ ask ∷ [])) }
     {
         self.end.end.try_recv_as::<TakeAsk, R>(rt, &mut self.pass)

@@ -1,12 +1,13 @@
 //! The rule of the channel of asks, and the facts that each step establishes.
-ghost use Rattle.workers.specs.AskOrder.{IsInTurn, sent, taken, numbering_part, taking_part, next_numbers, new_session};
+ghost use Rattle.workers.specs.AskOrder.{IsInTurn, sent, taken, numbering_part, taking_part};
+ghost use Rattle.workers.specs.AskOrder.{next_numbers, new_session};
 ghost use Rattle.workers.specs.declared.ask_rule.AskView.TheVariants.{Begins};
 
 use crate::post::Ask;
 use crossbeam_channel::protocol::{Lesson, Outcome, Protocol, Split};
 
-/// The knowledge of an end of the channel. No value of this type is made, and a clause reads an array as a list of any
-/// length.
+/// The knowledge of an end of the channel. No value of this type is made, and a clause reads an
+/// array as a list of any length.
 pub enum AskView {
     /// No session has begun, and no ask was taken.
     Begins,
@@ -18,7 +19,8 @@ pub enum AskView {
     Takes([Ask; 0]),
 }
 
-/// The asks that were taken, followed by those in the channel, are those that were sent: each session's once, in its order.
+/// The asks that were taken, followed by those in the channel, are those that were sent: each
+/// session's once, in its order.
 pub struct InTurn;
 
 impl Protocol<Ask, AskView> for InTurn {

@@ -39,7 +39,8 @@ impl Model for Asker {
 }
 
 impl Asker {
-    // A session that has asked for nothing, on this end. The pass is of this session, and no other has its number.
+    // A session that has asked for nothing, on this end. The pass is of this session, and no
+    // other has its number.
     pub(crate) fn begin(end: AskSendEnd, pass: Pass<Ask, AskView>, session: u64) -> Self
         requires at { IsSeatAt (sends_on end.end) pass }
         requires own { view pass ≡ Sends session 0 }
@@ -54,8 +55,9 @@ impl Asker {
         }
     }
 
-    /// Sends this batch to the mutator, and waits for room if there is none. Its answer is made in this buffer, and its reply
-    /// goes to this sender. Batch and buffer come back with the post. An ask that isn't sent leaves its number to the next one.
+    /// Sends this batch to the mutator, and waits for room if there is none. Its answer is made in
+    /// this buffer, and its reply goes to this sender. Batch and buffer come back with the post. An
+    /// ask that isn't sent leaves its number to the next one.
     pub fn send<R: Wait>(
         &mut self,
         rt: &R,
@@ -79,8 +81,8 @@ impl Asker {
         }
     }
 
-    /// Waits for the reply to the last ask, which was for this batch. It looks for the reply so often before it sleeps. A
-    /// reply to another ask counts as none.
+    /// Waits for the reply to the last ask, which was for this batch. It looks for the reply so
+    /// often before it sleeps. A reply to another ask counts as none.
     pub fn wait<R: Wait>(
         &mut self,
         rt: &R,
@@ -88,7 +90,8 @@ impl Asker {
         awaited: AwaitedReply,
         looks: u32,
     ) -> (Result<Post, Fault>, ReplySlot)
-        ensures post { IfOk result.0 (λ post. IsNewPost self.old batch.now.list post × (self.new ≡ record self.old { posted = post.tick })) }
+        ensures post { IfOk result.0 (λ post. IsNewPost self.old batch.now.list post
+            × (self.new ≡ record self.old { posted = post.tick })) }
         ensures fault { IfErr result.0 (λ fault. IsFaultOf self.old fault × (self.new ≡ self.old)) }
     {
         let (reply, slot) = awaited.wait(rt, looks);
@@ -97,10 +100,13 @@ impl Asker {
 
     // Judges the reply to the last ask, which was for this batch.
     fn heed(&mut self, batch: &Batch, reply: Option<Reply>) -> Result<Post, Fault>
-        ensures post { IfOk result (λ post. IsNewPost self.old batch.now.list post × (self.new ≡ record self.old { posted = post.tick })) }
+        ensures post { IfOk result (λ post. IsNewPost self.old batch.now.list post
+            × (self.new ≡ record self.old { posted = post.tick })) }
         ensures fault { IfErr result (λ fault. IsFaultOf self.old fault × (self.new ≡ self.old)) }
-        ensures posted { (post : Posted) → reply ≡ Some (Reply.Post post) → IsNewPost self.old batch.now.list post → result ≡ Ok post }
-        ensures refused { (fault : Fault) → reply ≡ Some (Reply.Fault fault) → IsFaultOf self.old fault → result ≡ Err fault }
+        ensures posted { (post : Posted) → reply ≡ Some (Reply.Post post)
+            → IsNewPost self.old batch.now.list post → result ≡ Ok post }
+        ensures refused { (fault : Fault) → reply ≡ Some (Reply.Fault fault)
+            → IsFaultOf self.old fault → result ≡ Err fault }
         ensures none { reply ≡ None → IfErr result (λ fault. fault.reason ≡ Refusal.LogDown) }
     {
         match reply {
@@ -112,7 +118,8 @@ impl Asker {
 
     // Takes a post, if it is a new one of the last ask.
     fn accept(&mut self, batch: &Batch, post: Post) -> Result<Post, Fault>
-        ensures post { IfOk result (λ taken. (taken ≡ post) × IsNewPost self.old batch.now.list post × (self.new ≡ record self.old { posted = post.tick })) }
+        ensures post { IfOk result (λ taken. (taken ≡ post) × IsNewPost self.old batch.now.list post
+            × (self.new ≡ record self.old { posted = post.tick })) }
         ensures fault { IfErr result (λ fault. IsFaultOf self.old fault × (self.new ≡ self.old)) }
         ensures new { IsNewPost self.old batch.now.list post → result ≡ Ok post }
     {
@@ -125,7 +132,8 @@ impl Asker {
 
     // Why the last ask has no post.
     fn fault(&self, reason: Refusal) -> Fault
-        ensures { result ≡ record { session = self.now.session; ask = self.now.asked; reason = reason } }
+        ensures { result
+            ≡ record { session = self.now.session; ask = self.now.asked; reason = reason } }
     {
         Fault::found(self.session, self.asked, reason)
     }

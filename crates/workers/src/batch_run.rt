@@ -13,9 +13,9 @@ use std::alloc::Global;
 use world_actions::Refusal;
 use world_ticks::Tick;
 
-/// Runs a batch on the front as the next tick. Returns its accepted actions, and the line that answers it, which is in the
-/// memory of `buffer` if that suffices. `ended` says how many ticks ended, and `since` how many of them since the last mark or
-/// start.
+/// Runs a batch on the front as the next tick. Returns its accepted actions, and the line that
+/// answers it, which is in the memory of `buffer` if that suffices. `ended` says how many ticks
+/// ended, and `since` how many of them since the last mark or start.
 pub fn play<M: Method>(
     alloc: Global,
     buffer: Vec<u8>,
@@ -25,7 +25,8 @@ pub fn play<M: Method>(
     since: u64,
 ) -> Result<(Tick, Vec<u8>), Refusal>
     ensures tick { IfOk result (λ played. played.0.list ≡ accepted_of b.now.list front.old.live) }
-    ensures text { IfOk result (λ played. played.1.items ≡ answer b.now.list front.old.live (ended + 1)) }
+    ensures text { IfOk result (λ played. played.1.items
+        ≡ answer b.now.list front.old.live (ended + 1)) }
     ensures words { OnOk result (front.new.live ≡ words_after b.now.list front.old.live) }
     ensures rounds { SameRounds front.old front.new }
     ensures untouched { HasFlags front.old → KeepsUntouched front.old front.new }

@@ -1,5 +1,6 @@
 //! The worker that writes the images.
-ghost use Rattle.std.specs.Prelude.{◌≡◌, ◌≢◌, ◌⊎◌, ◌↔◌, ◌<◌, ◌≤◌, true, false, [], IsTrue, MatchOption};
+ghost use Rattle.std.specs.Prelude.{◌≡◌, ◌≢◌, ◌⊎◌, ◌↔◌, ◌<◌, ◌≤◌, true, false, [], IsTrue};
+ghost use Rattle.std.specs.Prelude.{MatchOption};
 ghost use Rattle.world_ticks.specs.declared.tick.TheConstants.{TICK_MAX};
 ghost use Rattle.disk_model.specs.Disk.{OneCalledAtMostOnce};
 ghost use Rattle.image_files.specs.declared.phase.Phase.TheVariants.{Down, Idle, Taking};
@@ -7,7 +8,9 @@ ghost use Rattle.image_files.specs.Progress.{left_of, newest_tick};
 ghost use Rattle.workers.specs.declared.gate.Place.{Place as Asked};
 ghost use Rattle.workers.specs.declared.gate.Place.TheVariants.{Device};
 ghost use Rattle.workers.specs.Gates.{MayGo, MayStick};
-ghost use Rattle.workers.specs.Imaging.{place_of, HasRound, FindsNone, FindsRound, GoesOn, IsAtRest, IsDone, KeepsBack, ReportsFaults, Turned, WriterFits};
+ghost use Rattle.workers.specs.Imaging.{place_of, HasRound, FindsNone, FindsRound, GoesOn};
+ghost use Rattle.workers.specs.Imaging.{IsAtRest, IsDone, KeepsBack, ReportsFaults, Turned};
+ghost use Rattle.workers.specs.Imaging.{WriterFits};
 ghost use Rattle.workers.specs.Publishing.{IsNoneDue};
 
 use crate::checkpointer::publisher::Publisher;
@@ -45,10 +48,22 @@ impl<M: Method, D: Disk + Drop, G: Gate + Drop> Model for Checkpointer<M, D, G> 
 
     ghost Value = { Imaging D };
 
-    ghost view = { λ c. record { back = c.back; covers = c.covers; images = c.images; opening = c.opening.value; over = c.over } };
+    ghost view = { λ c. record {
+      back = c.back;
+      covers = c.covers;
+      images = c.images;
+      opening = c.opening.value;
+      over = c.over;
+    } };
 
     ghost invariant = { λ c. IsCheckpointer D.honest D.content D.may_leave
-        (record { back = c.back; covers = c.covers; images = c.images; opening = c.opening.value; over = c.over }) };
+        (record {
+          back = c.back;
+          covers = c.covers;
+          images = c.images;
+          opening = c.opening.value;
+          over = c.over;
+        }) };
 }
 
 impl<M: Method, D: Disk + Drop, G: Gate + Drop> Checkpointer<M, D, G> {
@@ -65,7 +80,13 @@ impl<M: Method, D: Disk + Drop, G: Gate + Drop> Checkpointer<M, D, G> {
         requires done { back.done ≡ [] }
         requires none { covers.ticks ≡ [] }
         requires fits { IsTrue D.honest → WriterFits D.content images }
-        ensures { result ≡ record { back = back; covers = covers; images = images; opening = images; over = false } }
+        ensures { result ≡ record {
+          back = back;
+          covers = covers;
+          images = images;
+          opening = images;
+          over = false;
+        } }
     {
         let opening = Snapshot::of(&images);
         Checkpointer {
@@ -79,8 +100,8 @@ impl<M: Method, D: Disk + Drop, G: Gate + Drop> Checkpointer<M, D, G> {
         }
     }
 
-    /// True if it does no more. The bell's other end is gone, a call of a device failed, or the gate holds it for good. Or
-    /// no image is made of the open round.
+    /// True if it does no more. The bell's other end is gone, a call of a device failed, or the
+    /// gate holds it for good. Or no image is made of the open round.
     pub fn is_over(&self) -> bool
         ensures { result ≡ self.now.over }
     {
@@ -101,17 +122,23 @@ impl<M: Method, D: Disk + Drop, G: Gate + Drop> Checkpointer<M, D, G> {
         &self.images
     }
 
-    /// Writes the image of the open round, publishes its tick and returns it. If no round is open it waits for the bell. A
-    /// round whose image can't be written stays open, so that no other is begun.
+    /// Writes the image of the open round, publishes its tick and returns it. If no round is
+    /// open it waits for the bell. A round whose image can't be written stays open, so that
+    /// no other is begun.
     pub fn turn<R: Wait>(&mut self, rt: &R) -> Option<u64>
         requires goes_on { self.old.over ≡ false }
         requires rest { IsAtRest self.old.images.keeper self.old.back }
         ensures rest { self.new.over ≡ false → IsAtRest self.new.images.keeper self.new.back }
-        ensures same { (self.new.back.pair ≡ self.old.back.pair) × (self.new.back.cells ≡ self.old.back.cells) × (self.new.covers.pair ≡ self.old.covers.pair) × (self.new.opening ≡ self.old.opening) }
+        ensures same { (self.new.back.pair ≡ self.old.back.pair)
+            × (self.new.back.cells ≡ self.old.back.cells)
+            × (self.new.covers.pair ≡ self.old.covers.pair)
+            × (self.new.opening ≡ self.old.opening) }
         ensures turned { Turned ((place : Asked) × MayStick G.answers place) self.old self.new }
-        ensures asks { ((self.new.images.image_a ≡ self.old.images.image_a) × (self.new.images.image_b ≡ self.old.images.image_b))
+        ensures asks { ((self.new.images.image_a ≡ self.old.images.image_a)
+            × (self.new.images.image_b ≡ self.old.images.image_b))
             ⊎ MayGo G.answers Device }
-        ensures opened { MatchOption result (self.new.back.done ≡ self.old.back.done) (λ tick. IsDone self.old.back tick self.new.back) }
+        ensures opened { MatchOption result (self.new.back.done ≡ self.old.back.done)
+            (λ tick. IsDone self.old.back tick self.new.back) }
         ensures faults { ReportsFaults D.faults self.old.images self.new.images }
     {
         let Some(tick) = self.begin() else {
@@ -125,13 +152,14 @@ impl<M: Method, D: Disk + Drop, G: Gate + Drop> Checkpointer<M, D, G> {
         if self.over { None } else { Some(tick) }
     }
 
-    /// Looks for an open round, begins its image, and returns its tick. The checkpointer is over if no image is made of that
-    /// tick.
+    /// Looks for an open round, begins its image, and returns its tick. The checkpointer is over if
+    /// no image is made of that tick.
     pub fn begin(&mut self) -> Option<u64>
         requires goes_on { self.old.over ≡ false }
         requires idle { self.old.images.keeper.phase ≡ Idle }
         ensures keeps { KeepsBack self.old self.new }
-        ensures found { MatchOption result (FindsNone self.old self.new) (λ tick. FindsRound self.old tick self.new) }
+        ensures found { MatchOption result (FindsNone self.old self.new)
+            (λ tick. FindsRound self.old tick self.new) }
     {
         images_stay::<D>();
         let Some(tick) = self.back.look() else {
@@ -145,19 +173,22 @@ impl<M: Method, D: Disk + Drop, G: Gate + Drop> Checkpointer<M, D, G> {
         Some(tick)
     }
 
-    /// Makes a step of the round in work, if the gate lets it. The checkpointer is over if a call of a device failed or the
-    /// gate is stuck.
+    /// Makes a step of the round in work, if the gate lets it. The checkpointer is over if a call
+    /// of a device failed or the gate is stuck.
     pub fn step<R: Wait>(&mut self, rt: &R)
         requires goes_on { self.old.over ≡ false }
         requires left { 0 < left_of self.old.images.keeper }
         ensures keeps { KeepsBack self.old self.new }
         ensures goes { GoesOn (MayGo G.answers (place_of self.old.images.keeper.phase))
-            (MayStick G.answers (place_of self.old.images.keeper.phase)) D.faults self.old self.new }
+            (MayStick G.answers (place_of self.old.images.keeper.phase))
+            D.faults self.old self.new }
         ensures calls { OneCalledAtMostOnce D.called self.old.images.image_a self.new.images.image_a
             self.old.images.image_b self.new.images.image_b }
         ensures takes { self.old.images.keeper.phase ≡ Taking
-            → (self.new.images.image_a ≡ self.old.images.image_a) × (self.new.images.image_b ≡ self.old.images.image_b) }
-        ensures less { self.new.over ≡ false → left_of self.new.images.keeper < left_of self.old.images.keeper }
+            → (self.new.images.image_a ≡ self.old.images.image_a)
+            × (self.new.images.image_b ≡ self.old.images.image_b) }
+        ensures less { self.new.over ≡ false
+            → left_of self.new.images.keeper < left_of self.old.images.keeper }
     {
         if !passes(rt, &mut self.gate, next_place(&self.images.keeper)) {
             self.over = true;
@@ -174,11 +205,14 @@ impl<M: Method, D: Disk + Drop, G: Gate + Drop> Checkpointer<M, D, G> {
     // Steps the round in work to its end, or until the checkpointer is over.
     fn run_round<R: Wait>(&mut self, rt: &R)
         requires goes_on { self.old.over ≡ false }
-        requires round { HasRound self.old.images.keeper × (self.old.images.keeper.phase ≢ Down) × (self.old.back.working ≡ true) }
+        requires round { HasRound self.old.images.keeper × (self.old.images.keeper.phase ≢ Down)
+            × (self.old.back.working ≡ true) }
         ensures keeps { KeepsBack self.old self.new }
-        ensures goes { GoesOn ((place : Asked) × MayGo G.answers place) ((place : Asked) × MayStick G.answers place)
+        ensures goes { GoesOn ((place : Asked) × MayGo G.answers place)
+            ((place : Asked) × MayStick G.answers place)
             D.faults self.old self.new }
-        ensures files { ((self.new.images.image_a ≡ self.old.images.image_a) × (self.new.images.image_b ≡ self.old.images.image_b))
+        ensures files { ((self.new.images.image_a ≡ self.old.images.image_a)
+            × (self.new.images.image_b ≡ self.old.images.image_b))
             ⊎ MayGo G.answers Device }
         ensures ends { self.new.over ≡ false → self.new.images.keeper.phase ≡ Idle }
     {
@@ -199,8 +233,9 @@ fn next_place(images: &ImageKeeper) -> Place
     }
 }
 
-// True if an image is to be made of a round of this tick: there is such a tick, and the newest image is older. This holds
-// for each round that the front opens, but a load of only the phase doesn't show it.
+// True if an image is to be made of a round of this tick: there is such a tick, and the newest
+// image is older. This holds for each round that the front opens, but a load of only the phase
+// doesn't show it.
 fn is_due(images: &ImageKeeper, tick: u64) -> bool
     ensures due { result ≡ true → (tick ≤ TICK_MAX) × (newest_tick images.now.newest < tick) }
     ensures not_due { result ≡ false → IsNoneDue images.now.newest tick }

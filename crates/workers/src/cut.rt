@@ -1,7 +1,7 @@
 use crate::gate::{Gate, Pass, Place};
 
-/// Lets its worker make `left` steps, and then holds it for good. Workers that are cut off leave their files as a crash
-/// between two steps would.
+/// Lets its worker make `left` steps, and then holds it for good. Workers that are cut off leave
+/// their files as a crash between two steps would.
 #[derive(Clone, Copy, Debug, Drop)]
 pub struct Cut {
     /// How many steps are left.

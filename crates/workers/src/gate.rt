@@ -26,7 +26,8 @@ pub enum Pass {
     Stuck,
 }
 
-/// A gate is asked before each step of a worker, in the worker's thread. Tests use gates to hold workers.
+/// A gate is asked before each step of a worker, in the worker's thread. Tests use gates
+/// to hold workers.
 pub trait Gate {
     ghost use Rattle.workers.specs.declared.gate.Place.{Place};
     ghost use Rattle.workers.specs.declared.gate.Pass.{Pass};
@@ -53,7 +54,8 @@ impl Gate for Open {
     }
 }
 
-/// Asks until the gate lets the step pass, or says that it never will. Returns true if the step may be made.
+/// Asks until the gate lets the step pass, or says that it never will. Returns true if the
+/// step may be made.
 pub(crate) fn passes<R: Wait, G: Gate>(rt: &R, gate: &mut G, place: Place) -> bool
     ensures goes { result ≡ true → MayGo G.answers place }
     ensures sticks { result ≡ false → MayStick G.answers place }

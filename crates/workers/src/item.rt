@@ -21,8 +21,8 @@ pub enum Item {
     Stop,
 }
 
-/// The knowledge of an end of the channel. No value of this type is made, and a clause reads an array as a list of any
-/// length.
+/// The knowledge of an end of the channel. No value of this type is made, and a clause reads an
+/// array as a list of any length.
 pub enum View {
     Spent,
     Pushes([Item; 0]),

@@ -44,7 +44,11 @@ impl Model for ItemSender {
 
     ghost Value = { Pushing };
 
-    ghost view = { λ s. record { end = s.end; items = pushed_of (seen s.pass); refused = s.refused } };
+    ghost view = { λ s. record {
+      end = s.end;
+      items = pushed_of (seen s.pass);
+      refused = s.refused;
+    } };
 
     ghost invariant = { λ s. IsSender s.end s.pass };
 }
@@ -54,7 +58,8 @@ impl Model for ItemSender {
 pub struct ItemReceiver {
     end: ReceiveEnd,
     pass: Pass<Item, View>,
-    /// How often it looks for an item before it sleeps. If this is `None`, it waits as the channel does.
+    /// How often it looks for an item before it sleeps. If this is `None`, it waits as
+    /// the channel does.
     looks: Option<Looks>,
 }
 
@@ -70,7 +75,8 @@ impl Model for ItemReceiver {
     ghost invariant = { λ r. IsReceiver r.end r.pass };
 }
 
-/// Makes a channel of 64 items, for a log that begins after the tick of this number. The start is already pushed and popped.
+/// Makes a channel of 64 items, for a log that begins after the tick of this number. The start is
+/// already pushed and popped.
 pub fn open<R: Wait>(
     rt: &R,
     alloc: Global,
@@ -109,7 +115,8 @@ pub fn open<R: Wait>(
 }
 
 impl ItemSender {
-    /// Pushes the item at the back, and waits while the channel is full. Returns false if the receiver is gone.
+    /// Pushes the item at the back, and waits while the channel is full. Returns false if the
+    /// receiver is gone.
     pub fn push<R: Wait>(&mut self, rt: &R, item: Item) -> bool
         requires goes { Goes (items_end self.old.items) item }
         ensures end { self.new.end ≡ self.old.end }
@@ -145,7 +152,8 @@ impl ItemReceiver {
     /// Pops the item at the front, and waits while the channel is empty.
     pub fn pop<R: Wait>(&mut self, rt: &R) -> Result<Item, RecvError>
         ensures end { self.new.end ≡ self.old.end }
-        ensures popped { MatchResult result (λ x. self.new.items ≡ self.old.items ++ x ∷ []) (λ _. self.new ≡ self.old) }
+        ensures popped { MatchResult result (λ x. self.new.items ≡ self.old.items ++ x ∷ [])
+            (λ _. self.new ≡ self.old) }
         ensures goes { IfOk result (λ x. Goes (items_end self.old.items) x) }
     {
         for _ in 0..self.looks() {
@@ -161,7 +169,8 @@ impl ItemReceiver {
     // Pops the item at the front, and sleeps while the channel is empty.
     fn sleep<R: Wait>(&mut self, rt: &R) -> Result<Item, RecvError>
         ensures end { self.new.end ≡ self.old.end }
-        ensures popped { MatchResult result (λ x. self.new.items ≡ self.old.items ++ x ∷ []) (λ _. self.new ≡ self.old) }
+        ensures popped { MatchResult result (λ x. self.new.items ≡ self.old.items ++ x ∷ [])
+            (λ _. self.new ≡ self.old) }
         ensures goes { IfOk result (λ x. Goes (items_end self.old.items) x) }
     {
         self.end.end.recv_as::<Pop, R>(rt, &mut self.pass)
@@ -170,7 +179,8 @@ impl ItemReceiver {
     /// Pops the item at the front, if there is one.
     pub fn try_pop<R: Wait>(&mut self, rt: &R) -> Result<Item, TryRecvError>
         ensures end { self.new.end ≡ self.old.end }
-        ensures popped { MatchResult result (λ x. self.new.items ≡ self.old.items ++ x ∷ []) (λ _. self.new ≡ self.old) }
+        ensures popped { MatchResult result (λ x. self.new.items ≡ self.old.items ++ x ∷ [])
+            (λ _. self.new ≡ self.old) }
         ensures goes { IfOk result (λ x. Goes (items_end self.old.items) x) }
     {
         self.end.end.try_recv_as::<Pop, R>(rt, &mut self.pass)
@@ -184,10 +194,12 @@ fn compare_passes(
     theirs: &mut Pass<Item, View>,
 )
     requires at { IsSeatAt (sends_on end.now) mine.old × IsSeatAt (sends_on end.now) theirs.old }
-    requires views { (view mine.old ≡ Pushes (pushed_of (view mine.old))) × (view theirs.old ≡ Pops (popped_of (view theirs.old))) }
+    requires views { (view mine.old ≡ Pushes (pushed_of (view mine.old)))
+        × (view theirs.old ≡ Pops (popped_of (view theirs.old))) }
     ensures at { IsSeatAt (sends_on end.now) mine.new × IsSeatAt (sends_on end.now) theirs.new }
     ensures views { (view mine.new ≡ view mine.old) × (view theirs.new ≡ view theirs.old) }
-    ensures order { (rest : List Pushed) × (popped_of (view theirs.old) ++ rest ≡ pushed_of (view mine.old)) }
+    ensures order { (rest : List Pushed)
+        × (popped_of (view theirs.old) ++ rest ≡ pushed_of (view mine.old)) }
 {
     let moved = end.another::<Move>(theirs);
     end.absorb::<Whole>(mine, moved);
@@ -195,8 +207,8 @@ fn compare_passes(
     *theirs = end.another::<Part>(mine);
 }
 
-/// Lets the two ends meet, once they are in one thread again. Then the popped items are known to be a beginning of the
-/// pushed ones, and each item is where it may be.
+/// Lets the two ends meet, once they are in one thread again. Then the popped items are known to be
+/// a beginning of the pushed ones, and each item is where it may be.
 pub fn compare(to: &mut ItemSender, from: &mut ItemReceiver)
     requires { AreOneChannel from.old.end to.old.end }
     ensures same { (to.new ≡ to.old) × (from.new ≡ from.old) }

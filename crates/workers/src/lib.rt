@@ -1,9 +1,10 @@
 //! The workers of a server: the mutator, the log writer and the checkpointer.
 //!
-//! The mutator runs batches on the front of a pair of seats. It pushes their ticks with their answers, and the switches of
-//! the rounds that it opens, on a channel under a rule. The log writer pops them, writes the log, and answers each batch
-//! once its tick is durable. The checkpointer writes the image of each round from the back, while play continues. No lock is
-//! held around the world. The workers meet once they have ended.
+//! The mutator runs batches on the front of a pair of seats. It pushes their ticks with their
+//! answers, and the switches of the rounds that it opens, on a channel under a rule. The log writer
+//! pops them, writes the log, and answers each batch once its tick is durable. The checkpointer
+//! writes the image of each round from the back, while play continues. No lock is held around the
+//! world. The workers meet once they have ended.
 #![tactic(auto)]
 
 mod ask_channel;

@@ -4,7 +4,8 @@ mod answers;
 mod holding;
 mod keep;
 
-ghost use Rattle.std.specs.Prelude.{◌≡◌, ◌≢◌, ◌↔◌, ◌⊎◌, ◌+◌, ◌<◌, ◌≤◌, ◌++◌, ◌∷◌, [], ℕ, true, false, List, length, IfOk, IsTrue};
+ghost use Rattle.std.specs.Prelude.{◌≡◌, ◌≢◌, ◌↔◌, ◌⊎◌, ◌+◌, ◌<◌, ◌≤◌, ◌++◌, ◌∷◌, [], ℕ, true};
+ghost use Rattle.std.specs.Prelude.{false, List, length, IfOk, IsTrue};
 ghost use Rattle.world_ticks.specs.declared.tick.TheConstants.{TICK_MAX};
 ghost use Rattle.disk_model.specs.Disk.{OneCalledAtMostOnce};
 ghost use Rattle.action_log.specs.declared.answer.LogAnswer.TheVariants.{Idle};
@@ -18,7 +19,9 @@ ghost use Rattle.workers.specs.declared.item.Item.TheVariants.{Start};
 ghost use Rattle.workers.specs.Covering.{loaded, LoadsOn};
 ghost use Rattle.workers.specs.Gates.{MayGo, MayStick};
 ghost use Rattle.workers.specs.Publishing.{reported as with_reported};
-ghost use Rattle.workers.specs.Logging.{is_stop, has_stop, is_over, writer_at, Took, Loses, Pops, refused, Settles, receipt_of, Acknowledges, IsReady, IsAtRest, LogReportsFaults, FallsBy, IsPosted, IsLogging};
+ghost use Rattle.workers.specs.Logging.{is_stop, has_stop, is_over, writer_at, Took, Loses, Pops};
+ghost use Rattle.workers.specs.Logging.{refused, Settles, receipt_of, Acknowledges, IsReady};
+ghost use Rattle.workers.specs.Logging.{IsAtRest, LogReportsFaults, FallsBy, IsPosted, IsLogging};
 
 use crate::gate::{Gate, Place, passes};
 use crate::item_channel::ItemReceiver;
@@ -45,8 +48,8 @@ pub struct Log<D: Disk + Drop> {
     pub b: D,
 }
 
-/// Writes the popped records to the log, except those that an open image has, and answers the durable ticks. It begins
-/// after the start of the log.
+/// Writes the popped records to the log, except those that an open image has, and answers the
+/// durable ticks. It begins after the start of the log.
 #[derive(Drop)]
 pub struct LogWriter<D: Disk + Drop, G: Gate + Drop> {
     gate: G,
@@ -71,14 +74,38 @@ impl<D: Disk + Drop, G: Gate + Drop> Model for LogWriter<D, G> {
 
     ghost Value = { Logging D };
 
-    ghost view = { λ w. record { from = w.from; covers = w.covers; reported_down = w.reported_down; log = w.log; ring = w.ring; answers = w.answers; opening = w.opening.value; acked = w.acked; down = w.down; over = w.over } };
+    ghost view = { λ w. record {
+      from = w.from;
+      covers = w.covers;
+      reported_down = w.reported_down;
+      log = w.log;
+      ring = w.ring;
+      answers = w.answers;
+      opening = w.opening.value;
+      acked = w.acked;
+      down = w.down;
+      over = w.over;
+    } };
 
-    ghost invariant = { λ w. IsLogging D.content D.may_leave D.honest (record { from = w.from; covers = w.covers; reported_down = w.reported_down; log = w.log; ring = w.ring; answers = w.answers; opening = w.opening.value; acked = w.acked; down = w.down; over = w.over }) };
+    ghost invariant = { λ w.
+        IsLogging D.content D.may_leave
+        D.honest (record {
+          from = w.from;
+          covers = w.covers;
+          reported_down = w.reported_down;
+          log = w.log;
+          ring = w.ring;
+          answers = w.answers;
+          opening = w.opening.value;
+          acked = w.acked;
+          down = w.down;
+          over = w.over;
+        }) };
 }
 
 impl<D: Disk + Drop, G: Gate + Drop> LogWriter<D, G> {
-    /// A log writer for a log that begins after this tick. Its keeper has just made the start, the channel was just
-    /// opened, and no tick of an open image has come yet.
+    /// A log writer for a log that begins after this tick. Its keeper has just made the start, the
+    /// channel was just opened, and no tick of an open image has come yet.
     pub fn new(
         alloc: Global,
         gate: G,
@@ -167,8 +194,10 @@ impl<D: Disk + Drop, G: Gate + Drop> LogWriter<D, G> {
     fn take<R: Wait>(&mut self, rt: &R)
         requires up { self.old.down ≡ false }
         requires goes_on { self.old.over ≡ false }
-        requires room { (length self.old.ring.items < QUEUE_RECORDS) × (length self.old.answers.waiting < QUEUE_RECORDS) }
-        ensures { (more : List Popped) × Took self.old self.new more × (self.new.over ≡ is_over more) }
+        requires room { (length self.old.ring.items < QUEUE_RECORDS)
+            × (length self.old.answers.waiting < QUEUE_RECORDS) }
+        ensures { (more : List Popped) × Took self.old self.new more
+            × (self.new.over ≡ is_over more) }
     {
         match self.from.pop(rt) {
             Ok(item) => self.over = keep(&self.log.keeper, &mut self.ring, &mut self.answers, item),
@@ -180,10 +209,13 @@ impl<D: Disk + Drop, G: Gate + Drop> LogWriter<D, G> {
     fn try_take<R: Wait>(&mut self, rt: &R) -> bool
         requires up { self.old.down ≡ false }
         requires goes_on { self.old.over ≡ false }
-        requires room { (length self.old.ring.items < QUEUE_RECORDS) × (length self.old.answers.waiting < QUEUE_RECORDS) }
-        ensures took { result ≡ true → (item : Popped) × Took self.old self.new (item ∷ []) × (self.new.over ≡ is_stop item) }
+        requires room { (length self.old.ring.items < QUEUE_RECORDS)
+            × (length self.old.answers.waiting < QUEUE_RECORDS) }
+        ensures took { result ≡ true → (item : Popped) × Took self.old self.new (item ∷ [])
+            × (self.new.over ≡ is_stop item) }
         ensures none { result ≡ false → self.new ≡ self.old }
-        ensures queued { result ≡ true → self.new.over ≡ false → length self.new.ring.items ≡ length self.old.ring.items + 1 }
+        ensures queued { result ≡ true → self.new.over ≡ false
+            → length self.new.ring.items ≡ length self.old.ring.items + 1 }
     {
         match self.from.try_pop(rt) {
             Ok(item) => {
@@ -199,7 +231,8 @@ impl<D: Disk + Drop, G: Gate + Drop> LogWriter<D, G> {
         requires up { self.old.down ≡ false }
         requires goes_on { self.old.over ≡ false }
         requires few { length self.old.answers.waiting ≤ length self.old.ring.items }
-        ensures { (more : List Popped) × Took self.old self.new more × (self.new.over ≡ has_stop more) }
+        ensures { (more : List Popped) × Took self.old self.new more
+            × (self.new.over ≡ has_stop more) }
     {
         while !self.over && self.ring.len() < QUEUE_RECORDS {
             if !self.try_take(rt) {
@@ -213,7 +246,8 @@ impl<D: Disk + Drop, G: Gate + Drop> LogWriter<D, G> {
         requires up { self.old.down ≡ false }
         requires goes_on { self.old.over ≡ false }
         requires none { (self.old.ring.items ≡ []) × (self.old.answers.waiting ≡ []) }
-        ensures { (more : List Popped) × Took self.old self.new more × (self.new.over ≡ is_over more) }
+        ensures { (more : List Popped) × Took self.old self.new more
+            × (self.new.over ≡ is_over more) }
     {
         self.take(rt);
         if self.over {
@@ -222,28 +256,45 @@ impl<D: Disk + Drop, G: Gate + Drop> LogWriter<D, G> {
         self.gather(rt);
     }
 
-    /// Leaves out the records that the newest open image has, or makes a step of the log, if the gate lets it. It posts the
-    /// answers of the ticks that became durable. If the log goes down, it refuses each answer that waits.
+    /// Leaves out the records that the newest open image has, or makes a step of the log, if the
+    /// gate lets it. It posts the answers of the ticks that became durable. If the log goes down,
+    /// it refuses each answer that waits.
     pub fn step<R: Wait>(&mut self, rt: &R)
         requires up { self.old.down ≡ false }
         ensures same { self.new
-            ≡ record self.old { covers = self.new.covers; reported_down = self.new.reported_down; log = self.new.log; ring = self.new.ring; answers = self.new.answers; acked = self.new.acked; down = self.new.down } }
+            ≡ record self.old {
+              covers = self.new.covers;
+              reported_down = self.new.reported_down;
+              log = self.new.log;
+              ring = self.new.ring;
+              answers = self.new.answers;
+              acked = self.new.acked;
+              down = self.new.down;
+            } }
         ensures loads { LoadsOn self.old.covers self.new.covers }
         ensures word { self.new.reported_down.pair ≡ self.old.reported_down.pair }
-        ensures covers { self.new.down ≡ false → (tick : ℕ) × (self.new.covers ≡ loaded self.old.covers tick)
-            × (cover_answer self.old.log.keeper tick self.old.ring.items ≢ Idle → (self.new.log ≡ self.old.log)
+        ensures covers { self.new.down ≡ false
+            → (tick : ℕ) × (self.new.covers ≡ loaded self.old.covers tick)
+            × (cover_answer self.old.log.keeper tick self.old.ring.items ≢ Idle
+            → (self.new.log ≡ self.old.log)
             × (self.new.ring.items ≡ uncovered self.old.log.keeper tick self.old.ring.items)) }
         ensures acked { self.old.acked ≤ self.new.acked }
-        ensures posts { self.new.down ≡ false → (tick : ℕ) × (self.new.covers ≡ loaded self.old.covers tick)
-            × Acknowledges (receipt_of self.old.log.keeper tick self.old.ring.items self.new.log.keeper) self.old self.new }
+        ensures posts { self.new.down ≡ false
+            → (tick : ℕ) × (self.new.covers ≡ loaded self.old.covers tick)
+            × Acknowledges
+            (receipt_of self.old.log.keeper tick self.old.ring.items self.new.log.keeper) self.old
+            self.new }
         ensures lowers { self.new.down ≡ false → 0 < work_of self.old.log.keeper self.old.ring.items
-            → work_of self.new.log.keeper self.new.ring.items < work_of self.old.log.keeper self.old.ring.items }
+            → work_of self.new.log.keeper self.new.ring.items
+            < work_of self.old.log.keeper self.old.ring.items }
         ensures faults { LogReportsFaults D.faults self.old.log self.new.log }
         ensures asks { (self.new.log ≡ self.old.log) ⊎ MayGo G.answers Device }
-        ensures calls { OneCalledAtMostOnce D.called self.old.log.a self.new.log.a self.old.log.b self.new.log.b }
+        ensures calls { OneCalledAtMostOnce D.called self.old.log.a self.new.log.a
+            self.old.log.b self.new.log.b }
         ensures cause { self.new.down ≡ true → (self.new.log.keeper.down ≡ true)
             ⊎ ((self.new.log ≡ self.old.log) × MayStick G.answers Device) }
-        ensures refused { self.new.down ≡ true → (self.new.acked ≡ self.old.acked) × (self.new.answers ≡ refused self.old.answers) }
+        ensures refused { self.new.down ≡ true
+            → (self.new.acked ≡ self.old.acked) × (self.new.answers ≡ refused self.old.answers) }
     {
         if !passes(rt, &mut self.gate, Place::Device) {
             self.fall(rt);
@@ -267,12 +318,20 @@ impl<D: Disk + Drop, G: Gate + Drop> LogWriter<D, G> {
         }
     }
 
-    // Steps the log until nothing is left to do or it is down. An answer that still waits then has no receipt, so it is
-    // refused too.
+    // Steps the log until nothing is left to do or it is down. An answer that still waits then has
+    // no receipt, so it is refused too.
     fn write_all<R: Wait>(&mut self, rt: &R)
         requires up { self.old.down ≡ false }
         ensures same { self.new
-            ≡ record self.old { covers = self.new.covers; reported_down = self.new.reported_down; log = self.new.log; ring = self.new.ring; answers = self.new.answers; acked = self.new.acked; down = self.new.down } }
+            ≡ record self.old {
+              covers = self.new.covers;
+              reported_down = self.new.reported_down;
+              log = self.new.log;
+              ring = self.new.ring;
+              answers = self.new.answers;
+              acked = self.new.acked;
+              down = self.new.down;
+            } }
         ensures loads { LoadsOn self.old.covers self.new.covers }
         ensures word { self.new.reported_down.pair ≡ self.old.reported_down.pair }
         ensures acked { self.old.acked ≤ self.new.acked }
@@ -297,8 +356,8 @@ impl<D: Disk + Drop, G: Gate + Drop> LogWriter<D, G> {
         self.log.keeper.has_work(&self.ring)
     }
 
-    /// Ends the writing, for callers that have no step left to make. An answer that still waits has no receipt, so it is
-    /// refused, and the log counts as down.
+    /// Ends the writing, for callers that have no step left to make. An answer that still waits has
+    /// no receipt, so it is refused, and the log counts as down.
     pub fn settle<R: Wait>(&mut self, rt: &R)
         requires up { self.old.down ≡ false }
         ensures { Settles self.old self.new }
@@ -308,8 +367,8 @@ impl<D: Disk + Drop, G: Gate + Drop> LogWriter<D, G> {
         }
     }
 
-    /// Pops an item and keeps it, if there is one and room for it, without waiting. Once the log is down it pops an item and
-    /// refuses its answer. Returns true if it popped one.
+    /// Pops an item and keeps it, if there is one and room for it, without waiting. Once the log is
+    /// down it pops an item and refuses its answer. Returns true if it popped one.
     pub fn pop<R: Wait>(&mut self, rt: &R) -> bool
         requires goes_on { self.old.over ≡ false }
         ensures popped { result ≡ true → (item : Popped) × Pops self.old item self.new }
@@ -329,7 +388,8 @@ impl<D: Disk + Drop, G: Gate + Drop> LogWriter<D, G> {
         requires down { self.old.down ≡ true }
         requires goes_on { self.old.over ≡ false }
         requires none { self.old.answers.waiting ≡ [] }
-        ensures lost { result ≡ true → (item : Popped) × Loses self.old item self.new × (self.new.over ≡ is_stop item) }
+        ensures lost { result ≡ true
+            → (item : Popped) × Loses self.old item self.new × (self.new.over ≡ is_stop item) }
         ensures none { result ≡ false → self.new ≡ self.old }
     {
         match self.from.try_pop(rt) {
@@ -346,11 +406,16 @@ impl<D: Disk + Drop, G: Gate + Drop> LogWriter<D, G> {
         requires down { self.old.down ≡ true }
         requires goes_on { self.old.over ≡ false }
         requires none { self.old.answers.waiting ≡ [] }
-        ensures popped { (more : List Popped) × (self.new.from.items ≡ self.old.from.items ++ more) × (self.new.over ≡ is_over more) }
+        ensures popped { (more : List Popped) × (self.new.from.items ≡ self.old.from.items ++ more)
+            × (self.new.over ≡ is_over more) }
         ensures end { self.new.from.end ≡ self.old.from.end }
         ensures none { self.new.answers.waiting ≡ [] }
         ensures same { self.new
-            ≡ record self.old { from = self.new.from; answers = self.new.answers; over = self.new.over } }
+            ≡ record self.old {
+              from = self.new.from;
+              answers = self.new.answers;
+              over = self.new.over;
+            } }
     {
         match self.from.pop(rt) {
             Ok(item) => self.over = lose(rt, &mut self.answers, item),
@@ -358,20 +423,29 @@ impl<D: Disk + Drop, G: Gate + Drop> LogWriter<D, G> {
         }
     }
 
-    /// Waits for an item, and pops it with those after it, as long as there is room. It writes them to the log, except
-    /// those that an open image has, and answers the durable ticks. Once the log is down it pops an item and refuses it.
+    /// Waits for an item, and pops it with those after it, as long as there is room. It writes them
+    /// to the log, except those that an open image has, and answers the durable ticks. Once the log
+    /// is down it pops an item and refuses it.
     pub fn turn<R: Wait>(&mut self, rt: &R)
         requires goes_on { self.old.over ≡ false }
         requires rest { IsAtRest self.old }
         ensures rest { IsAtRest self.new }
-        ensures popped { (more : List Popped) × (self.new.from.items ≡ self.old.from.items ++ more) × (self.new.over ≡ is_over more) }
-        ensures same { (self.new.from.end ≡ self.old.from.end) × (self.new.opening ≡ self.old.opening) }
+        ensures popped { (more : List Popped) × (self.new.from.items ≡ self.old.from.items ++ more)
+            × (self.new.over ≡ is_over more) }
+        ensures same { (self.new.from.end ≡ self.old.from.end)
+            × (self.new.opening ≡ self.old.opening) }
         ensures loads { LoadsOn self.old.covers self.new.covers }
         ensures word { self.new.reported_down.pair ≡ self.old.reported_down.pair }
-        ensures down { self.old.down ≡ true → self.new ≡ record self.old { from = self.new.from; answers = self.new.answers; over = self.new.over } }
+        ensures down { self.old.down ≡ true
+            → self.new ≡ record self.old {
+              from = self.new.from;
+              answers = self.new.answers;
+              over = self.new.over;
+            } }
         ensures faults { LogReportsFaults D.faults self.old.log self.new.log }
         ensures asks { (self.new.log ≡ self.old.log) ⊎ MayGo G.answers Device }
-        ensures cause { self.old.down ≡ false → self.new.down ≡ true → FallsBy (MayStick G.answers Device) self.new }
+        ensures cause { self.old.down ≡ false → self.new.down ≡ true
+            → FallsBy (MayStick G.answers Device) self.new }
         ensures posted { self.new.down ≡ false → IsPosted self.new }
         ensures acked { self.old.acked ≤ self.new.acked }
     {

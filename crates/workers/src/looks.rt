@@ -13,7 +13,8 @@ const SESSION_LOOKS: u32 = 100;
 /// How often a worker looks for work while many sessions wait, so that none of them has to wake it.
 const WORKER_LOOKS: u32 = 200;
 
-/// How many sessions wait for their posts, and how many processors there are. Its clones share the count.
+/// How many sessions wait for their posts, and how many processors there are. Its clones
+/// share the count.
 #[derive(Drop)]
 pub struct Looks {
     waiting: Arc<AtomicU64, Global>,
@@ -34,7 +35,8 @@ impl Looks {
         })
     }
 
-    /// The same, with the processors that this program may use: 1 if the system doesn't say how many.
+    /// The same, with the processors that this program may use: 1 if the system
+    /// doesn't say how many.
     pub fn on_this_machine<R: Threads>(rt: &R, alloc: Global) -> Result<Self, AllocError> {
         let processors = match thread::available_parallelism(rt) {
             Ok(count) => count.get() as u64,

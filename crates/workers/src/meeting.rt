@@ -15,8 +15,8 @@ use crate::mutator::Mutator;
 use disk_model::Disk;
 use shared_capture::{Method, meet, meet_signal};
 
-/// Lets the ends of a world's workers meet: their seats, their channel and their two words. It also states the invariant of
-/// each worker, for callers that see a worker only as a value.
+/// Lets the ends of a world's workers meet: their seats, their channel and their two words. It also
+/// states the invariant of each worker, for callers that see a worker only as a value.
 pub fn meet_workers<M: Method, D: Disk + Drop, A: Gate + Drop, B: Gate + Drop, C: Gate + Drop>(
     mutator: &mut Mutator<M, A>,
     checkpointer: &mut Checkpointer<M, D, B>,
@@ -27,8 +27,11 @@ pub fn meet_workers<M: Method, D: Disk + Drop, A: Gate + Drop, B: Gate + Drop, C
     requires word { log_writer.old.covers.pair ≡ checkpointer.old.covers.pair }
     requires flag { mutator.old.heard.pair ≡ log_writer.old.reported_down.pair }
     ensures met { HaveMet mutator.new checkpointer.new log_writer.new }
-    ensures mutator { mutator.new ≡ record mutator.old { front = record mutator.old.front { closed = mutator.new.front.closed } } }
-    ensures checkpointer { checkpointer.new ≡ record checkpointer.old { back = checkpointer.new.back } }
+    ensures mutator { mutator.new ≡ record mutator.old {
+      front = record mutator.old.front { closed = mutator.new.front.closed };
+    } }
+    ensures checkpointer { checkpointer.new
+        ≡ record checkpointer.old { back = checkpointer.new.back } }
     ensures back { MetBack checkpointer.old.back checkpointer.new.back }
     ensures log_writer { log_writer.new ≡ log_writer.old }
     ensures is_mutator { IsMutator mutator.new }

@@ -1,5 +1,6 @@
 //! The worker that runs the batches.
-ghost use Rattle.std.specs.Prelude.{◌≡◌, ◌++◌, ◌∷◌, [], ℕ, ◌≤◌, true, false, None, Err, Result, MatchOption};
+ghost use Rattle.std.specs.Prelude.{◌≡◌, ◌++◌, ◌∷◌, [], ℕ, ◌≤◌, true, false, None, Err, Result};
+ghost use Rattle.std.specs.Prelude.{MatchOption};
 ghost use Rattle.world_actions.specs.declared.refusal.Refusal.{Refusal};
 ghost use Rattle.world_ticks.specs.declared.tick.TheConstants.{TICK_MAX};
 ghost use Rattle.shared_capture.specs.States.{HasFlags};
@@ -8,7 +9,8 @@ ghost use Rattle.workers.specs.declared.item.Item.TheVariants.{Start};
 ghost use Rattle.workers.specs.Covering.{loaded};
 ghost use Rattle.workers.specs.Gates.{MayGo, MayStick};
 ghost use Rattle.workers.specs.Posts.{AskedBatch};
-ghost use Rattle.workers.specs.Mutating.{IsLastRound, OpensNone, OwesSwitch, MarksIfDue, IsTaken, RunsBatch, AnswersBatch, Plays, Pays, Turns, StopsPlay};
+ghost use Rattle.workers.specs.Mutating.{IsLastRound, OpensNone, OwesSwitch, MarksIfDue, IsTaken};
+ghost use Rattle.workers.specs.Mutating.{RunsBatch, AnswersBatch, Plays, Pays, Turns, StopsPlay};
 
 use crate::ask_channel::AskReceiver;
 use crate::batch_run::play;
@@ -24,9 +26,10 @@ use std::snapshot::Snapshot;
 use std::sync::Wait;
 use world_actions::Refusal;
 
-/// Takes the sessions' batches, runs them on the front, and pushes their ticks and the switches of the rounds that it opens.
-/// Contracts see that the pushed items state what the front did. Each answer is that of its batch at its place. A session's
-/// batches are taken in its order, none left out, and each is played at most once. Each round has the words after the ticks
+/// Takes the sessions' batches, runs them on the front, and pushes their ticks and the switches
+/// of the rounds that it opens. Contracts see that the pushed items state what the front did.
+/// Each answer is that of its batch at its place. A session's batches are taken in its order,
+/// none left out, and each is played at most once. Each round has the words after the ticks
 /// pushed before its switch.
 #[derive(Drop)]
 pub struct Mutator<M: Method, G: Gate + Drop> {
@@ -43,7 +46,8 @@ pub struct Mutator<M: Method, G: Gate + Drop> {
     ended: u64,
     since: u64,
     every: u64,
-    /// True while an item is owed. True for good once a push was refused or the gate holds every batch.
+    /// True while an item is owed. True for good once a push was refused or the gate
+    /// holds every batch.
     stopped: bool,
     /// The item of the front's last act, if it isn't pushed yet.
     owed: Option<Item>,
@@ -54,14 +58,37 @@ impl<M: Method, G: Gate + Drop> Model for Mutator<M, G> {
 
     ghost Value = { Playing };
 
-    ghost view = { λ m. record { asks = m.asks; front = m.front; to = m.to; heard = m.heard; opening = m.opening.value.live; ended = m.ended; since = m.since; every = m.every; stopped = m.stopped; owed = m.owed } };
+    ghost view = { λ m. record {
+      asks = m.asks;
+      front = m.front;
+      to = m.to;
+      heard = m.heard;
+      opening = m.opening.value.live;
+      ended = m.ended;
+      since = m.since;
+      every = m.every;
+      stopped = m.stopped;
+      owed = m.owed;
+    } };
 
-    ghost invariant = { λ m. IsMutator (record { asks = m.asks; front = m.front; to = m.to; heard = m.heard; opening = m.opening.value.live; ended = m.ended; since = m.since; every = m.every; stopped = m.stopped; owed = m.owed }) };
+    ghost invariant = { λ m.
+        IsMutator (record {
+          asks = m.asks;
+          front = m.front;
+          to = m.to;
+          heard = m.heard;
+          opening = m.opening.value.live;
+          ended = m.ended;
+          since = m.since;
+          every = m.every;
+          stopped = m.stopped;
+          owed = m.owed;
+        }) };
 }
 
 impl<M: Method, G: Gate + Drop> Mutator<M, G> {
-    /// A mutator of a world whose start has ended, at this tick. A round is due after every `every` ticks,
-    /// and the bell is rung once it is open.
+    /// A mutator of a world whose start has ended, at this tick. A round is due after every `every`
+    /// ticks, and the bell is rung once it is open.
     pub fn new(
         gate: G,
         alloc: Global,
@@ -78,7 +105,18 @@ impl<M: Method, G: Gate + Drop> Mutator<M, G> {
         requires start { to.items ≡ Start tick ∷ [] }
         requires pushes { to.refused ≡ false }
         requires numbered { tick ≤ TICK_MAX }
-        ensures { result ≡ record { asks = asks; front = front; to = to; heard = heard; opening = front.live; ended = tick; since = 0; every = every; stopped = false; owed = None } }
+        ensures { result ≡ record {
+          asks = asks;
+          front = front;
+          to = to;
+          heard = heard;
+          opening = front.live;
+          ended = tick;
+          since = 0;
+          every = every;
+          stopped = false;
+          owed = None;
+        } }
     {
         let opening = Snapshot::of(&front);
         Mutator {
@@ -105,12 +143,13 @@ impl<M: Method, G: Gate + Drop> Mutator<M, G> {
         self.ended
     }
 
-    /// Waits for the next batch, runs it and pushes its tick. Before and after it, opens a round if one is due and none is
-    /// open. A batch that isn't run is answered here, by the refusal that is returned. Returns `None` if no session is left
-    /// that could ask.
+    /// Waits for the next batch, runs it and pushes its tick. Before and after it, opens a round if
+    /// one is due and none is open. A batch that isn't run is answered here, by the refusal that is
+    /// returned. Returns `None` if no session is left that could ask.
     pub fn turn<R: Wait>(&mut self, rt: &R) -> Option<Result<(), Refused>>
         ensures { MatchOption result (self.new ≡ self.old) (λ given. (asked : AskedBatch)
-            × Turns (MayGo G.answers Tick) (MayStick G.answers Tick) self.old asked given self.new) }
+            × Turns (MayGo G.answers Tick) (MayStick G.answers Tick)
+            self.old asked given self.new) }
     {
         let ask = self.asks.next(rt)?;
         self.mark_if_due(rt);
@@ -119,10 +158,12 @@ impl<M: Method, G: Gate + Drop> Mutator<M, G> {
         Some(played)
     }
 
-    /// Runs the next batch, if there is one, and owes its tick with the answer, or answers with the refusal.
+    /// Runs the next batch, if there is one, and owes its tick with the answer, or answers
+    /// with the refusal.
     pub fn run_next<R: Wait>(&mut self, rt: &R) -> Option<Result<(), Refused>>
         ensures { MatchOption result (self.new ≡ self.old) (λ given. (asked : AskedBatch)
-            × Plays (MayGo G.answers Tick) (MayStick G.answers Tick) self.old asked given self.new) }
+            × Plays (MayGo G.answers Tick) (MayStick G.answers Tick)
+            self.old asked given self.new) }
     {
         let ask = self.asks.try_next(rt)?;
         Some(self.run_batch(rt, ask))
@@ -153,10 +194,12 @@ impl<M: Method, G: Gate + Drop> Mutator<M, G> {
         true
     }
 
-    // Runs the batch that was taken last, and pushes its tick with the answer, or answers with the refusal.
+    // Runs the batch that was taken last, and pushes its tick with the answer, or answers
+    // with the refusal.
     fn play_batch<R: Wait>(&mut self, rt: &R, ask: Ask) -> Result<(), Refused>
         requires { IsTaken self.old ask }
-        ensures { AnswersBatch (MayGo G.answers Tick) (MayStick G.answers Tick) self.old ask result self.new }
+        ensures { AnswersBatch (MayGo G.answers Tick) (MayStick G.answers Tick)
+            self.old ask result self.new }
     {
         match self.run_batch(rt, ask) {
             Ok(()) => {
@@ -167,10 +210,12 @@ impl<M: Method, G: Gate + Drop> Mutator<M, G> {
         }
     }
 
-    // Runs the batch that was taken last, and owes its tick with the answer, or answers with the refusal.
+    // Runs the batch that was taken last, and owes its tick with the answer, or answers
+    // with the refusal.
     fn run_batch<R: Wait>(&mut self, rt: &R, ask: Ask) -> Result<(), Refused>
         requires { IsTaken self.old ask }
-        ensures { RunsBatch (MayGo G.answers Tick) (MayStick G.answers Tick) self.old ask result self.new }
+        ensures { RunsBatch (MayGo G.answers Tick) (MayStick G.answers Tick)
+            self.old ask result self.new }
     {
         if self.stopped {
             return refuse(rt, ask, Refusal::LogDown);
@@ -204,7 +249,8 @@ impl<M: Method, G: Gate + Drop> Mutator<M, G> {
         Ok(())
     }
 
-    /// Pushes the item that it owes, if it owes one. If the push is refused, the mutator has stopped for good.
+    /// Pushes the item that it owes, if it owes one. If the push is refused, the mutator has
+    /// stopped for good.
     pub fn pay<R: Wait>(&mut self, rt: &R)
         ensures { Pays self.old self.new }
     {

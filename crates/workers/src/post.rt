@@ -14,7 +14,8 @@ use std::mem;
 use std::sync::Wait;
 use world_actions::Refusal;
 
-/// A batch of a session. Contracts see the session's number, which of its asks this is, and the requests.
+/// A batch of a session. Contracts see the session's number, which of its asks this is,
+/// and the requests.
 #[derive(Drop)]
 pub struct SessionBatch {
     session: u64,
@@ -27,7 +28,11 @@ impl Model for SessionBatch {
 
     ghost Value = { AskedBatch };
 
-    ghost view = { λ asked. record { session = asked.session; ask = asked.ask; requests = asked.batch.list } };
+    ghost view = { λ asked. record {
+      session = asked.session;
+      ask = asked.ask;
+      requests = asked.batch.list;
+    } };
 }
 
 impl SessionBatch {
@@ -50,7 +55,8 @@ impl SessionBatch {
 
     // Why this ask has no post.
     fn fault(&self, reason: Refusal) -> Fault
-        ensures { result ≡ record { session = self.now.session; ask = self.now.ask; reason = reason } }
+        ensures { result
+            ≡ record { session = self.now.session; ask = self.now.ask; reason = reason } }
     {
         Fault {
             session: self.session,
@@ -67,7 +73,8 @@ fn are_same(xs: &[Request], ys: &[Request]) -> bool
     xs == ys
 }
 
-/// A batch of a session. Only it knows where its answer goes, and only an `Asker` makes one, as it sends it.
+/// A batch of a session. Only it knows where its answer goes, and only an `Asker` makes
+/// one, as it sends it.
 #[derive(Drop)]
 pub struct Ask {
     asked: SessionBatch,
@@ -84,8 +91,8 @@ impl Model for Ask {
 }
 
 impl Ask {
-    /// The ask of this number of a session, for the answer of this batch, which is made in this buffer and goes to this
-    /// sender. Batch and buffer come back with the post.
+    /// The ask of this number of a session, for the answer of this batch, which is made in this
+    /// buffer and goes to this sender. Batch and buffer come back with the post.
     pub(crate) fn new(
         session: u64,
         ask: u64,
@@ -149,7 +156,8 @@ impl Ask {
     }
 }
 
-/// Shows that a refusal was sent to its session: only `Ask::refuse` makes one. Contracts see the reason.
+/// Shows that a refusal was sent to its session: only `Ask::refuse` makes one.
+/// Contracts see the reason.
 #[derive(Drop)]
 pub struct Refused(Refusal);
 
@@ -170,8 +178,8 @@ impl Refused {
     }
 }
 
-/// The answer of a batch whose tick is durable. Contracts see its tick, its batch, its text, and the number of the
-/// receipt that it was made with.
+/// The answer of a batch whose tick is durable. Contracts see its tick, its batch, its text, and
+/// the number of the receipt that it was made with.
 #[derive(Drop)]
 pub struct Post {
     tick: u64,
@@ -185,9 +193,20 @@ impl Model for Post {
 
     ghost Value = { Posted };
 
-    ghost view = { λ post. record { tick = post.tick; asked = post.asked; text = post.text.items; receipt = post.receipt } };
+    ghost view = { λ post. record {
+      tick = post.tick;
+      asked = post.asked;
+      text = post.text.items;
+      receipt = post.receipt;
+    } };
 
-    ghost invariant = { λ post. IsPost (record { tick = post.tick; asked = post.asked; text = post.text.items; receipt = post.receipt }) };
+    ghost invariant = { λ post.
+        IsPost (record {
+          tick = post.tick;
+          asked = post.asked;
+          text = post.text.items;
+          receipt = post.receipt;
+        }) };
 }
 
 impl Post {
@@ -226,8 +245,8 @@ impl Post {
     }
 }
 
-/// Why an ask has no post. Only its reply, or the asker that finds none, makes one. Contracts see the session, which of its
-/// asks it was, and the reason.
+/// Why an ask has no post. Only its reply, or the asker that finds none, makes one. Contracts see
+/// the session, which of its asks it was, and the reason.
 #[derive(Clone, Copy, Debug, PartialEq, Eq)]
 pub struct Fault {
     session: u64,
@@ -298,7 +317,11 @@ impl Model for Waiting {
 
     ghost Value = { Unposted };
 
-    ghost view = { λ answer. record { number = answer.number; asked = answer.asked; text = answer.text.items } };
+    ghost view = { λ answer. record {
+      number = answer.number;
+      asked = answer.asked;
+      text = answer.text.items;
+    } };
 
     ghost invariant = { λ answer. IsAnswer answer.asked answer.text.items answer.number };
 }
@@ -344,7 +367,12 @@ impl Waiting {
     // Turns it into its post, with the sender to its session.
     fn into_post(self, receipt: Receipt) -> (Post, ReplySender)
         requires durable { self.number ≤ receipt }
-        ensures post { result.0 ≡ record { tick = self.number; asked = self.asked; text = self.text; receipt = receipt } }
+        ensures post { result.0 ≡ record {
+          tick = self.number;
+          asked = self.asked;
+          text = self.text;
+          receipt = receipt;
+        } }
     {
         let Waiting {
             number,

@@ -72,8 +72,8 @@ impl ReplySlot {
         })
     }
 
-    /// Hands out the sender of the next reply. The slot is given back once that reply was awaited, so there is one sender
-    /// at a time.
+    /// Hands out the sender of the next reply. The slot is given back once that reply was awaited,
+    /// so there is one sender at a time.
     pub fn ask(self) -> Result<(AwaitedReply, ReplySender), AllocError> {
         let ReplySlot { place } = self;
         let sender = ReplySender {
@@ -89,8 +89,8 @@ impl AwaitedReply {
         self.place.state.load(Ordering::SeqCst) == SENT
     }
 
-    /// Looks for the reply up to `looks` times, and then sleeps until the sender is gone. Returns `None` if the sender was
-    /// dropped unused, and the slot, which is empty again.
+    /// Looks for the reply up to `looks` times, and then sleeps until the sender is gone. Returns
+    /// `None` if the sender was dropped unused, and the slot, which is empty again.
     pub fn wait<R: Wait>(self, rt: &R, looks: u32) -> (Option<Reply>, ReplySlot) {
         if !self.sees_sent(looks) {
             self.sleep(rt);

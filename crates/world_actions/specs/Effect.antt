@@ -1,10 +1,13 @@
 -- The effect of an action on a list of words, or the reason why it is refused.
-use Rattle.std.specs.Prelude.{◌≡◌, ℕ, List, [], ◌∷◌, length, Bool, Option, Some, None, Result, Ok, Err, ℤ, pos, ◌+ℤ◌, neg_ℤ, ◌+◌, ◌-◌, min, ◌||◌, not, int_lt, nat_lt, nat_eq, unsigned_abs, slice_index, slice_set, if◌then◌else◌}
+use Rattle.std.specs.Prelude.{◌≡◌, ℕ, List, [], ◌∷◌, length, Bool, Option, Some, None, Result, Ok}
+use Rattle.std.specs.Prelude.{Err, ℤ, pos, ◌+ℤ◌, neg_ℤ, ◌+◌, ◌-◌, min, ◌||◌, not, int_lt, nat_lt}
+use Rattle.std.specs.Prelude.{nat_eq, unsigned_abs, slice_index, slice_set, if◌then◌else◌}
 use Rattle.world_actions.specs.declared.action.Action.{Action}
 use Rattle.world_actions.specs.declared.action.Action.TheVariants.{Set, Add, Transfer, Swap, Cap}
 use Rattle.world_actions.specs.declared.action.Change.{Change}
 use Rattle.world_actions.specs.declared.refusal.Refusal.{Refusal}
-use Rattle.world_actions.specs.declared.refusal.Refusal.TheVariants.{BadCell, BadValue, OutOfRange, SameCell}
+use Rattle.world_actions.specs.declared.refusal.Refusal.TheVariants.{BadCell, BadValue, OutOfRange}
+use Rattle.world_actions.specs.declared.refusal.Refusal.TheVariants.{SameCell}
 use Rattle.world_actions.specs.declared.world.TheConstants.{LIMIT}
 use Rattle.world_actions.specs.Action.{first_cell, second_cell}
 
@@ -25,7 +28,8 @@ refusal_of world (Set cell value) =
 refusal_of world (Add cell by) =
     if is_outside world cell then Some BadCell else
     if is_not_between (neg_ℤ (pos LIMIT)) (pos LIMIT) by then Some BadValue else
-    if is_not_between (pos 0) (pos LIMIT) (pos (slice_index world cell) +ℤ by) then Some OutOfRange else
+    if is_not_between (pos 0) (pos LIMIT) (pos (slice_index world cell) +ℤ by)
+    then Some OutOfRange else
     None
 refusal_of world (Transfer from to amount) =
     if is_outside world from then Some BadCell else
@@ -89,7 +93,8 @@ pub record Shows (world : List ℕ) (action : Action) (len first second : ℕ) :
 
 -- the writes of a change: the first cell's, then the second cell's if the change has a second word
 abbrev pub change_writes : Action → Change → List Write
-change_writes action change = record { cell = first_cell action; word = change.first } ∷ second_write change.second
+change_writes action change =
+    record { cell = first_cell action; word = change.first } ∷ second_write change.second
   where
     second_write : Option ℕ → List Write
     second_write None = []

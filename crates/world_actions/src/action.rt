@@ -50,8 +50,9 @@ ghost use Rattle.world_actions.specs.Action.{first_cell, second_cell};
 ghost use Rattle.world_actions.specs.World.{IsWord};
 ghost use Rattle.world_actions.specs.Effect.{Shows, refusal_of, writes_of, change_writes};
 
-/// Decides an action from the number of cells and the words of the two cells that it names. The word of a cell that isn't
-/// below `len` is 0. The caller, which holds the words, writes the change. It takes no memory.
+/// Decides an action from the number of cells and the words of the two cells that it names. The
+/// word of a cell that isn't below `len` is 0. The caller, which holds the words, writes the
+/// change. It takes no memory.
 pub fn check(a: &Action, len: usize, first: u64, second: u64) -> Result<Change, Refusal>
     requires first { IsWord first }
     requires second { IsWord second }

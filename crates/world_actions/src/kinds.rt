@@ -1,7 +1,9 @@
-//! The decision on an action of each kind, from the number of cells and the words of the action's cells.
+//! The decision on an action of each kind, from the number of cells and the words of
+//! the action's cells.
 ghost use Rattle.std.specs.Prelude.{◌≡◌, ℕ, List, ◌<◌, length, slice_index, OnOk, IfOk, IfSome};
 ghost use Rattle.std.specs.Result.{result_err};
-ghost use Rattle.world_actions.specs.declared.action.Action.TheVariants.{Set, Add, Transfer, Swap, Cap};
+ghost use Rattle.world_actions.specs.declared.action.Action.TheVariants.{Set, Add, Transfer, Swap};
+ghost use Rattle.world_actions.specs.declared.action.Action.TheVariants.{Cap};
 ghost use Rattle.world_actions.specs.World.{IsWord};
 ghost use Rattle.world_actions.specs.Effect.{Shows, refusal_of, writes_of, change_writes};
 
@@ -35,7 +37,8 @@ pub(crate) fn check_add(cell: u32, by: i64, len: usize, word: u64) -> Result<Cha
     requires { IsWord word }
     ensures refuses { (world : List ℕ) → length world ≡ len → slice_index world cell ≡ word
         → refusal_of world (Add cell by) ≡ result_err result }
-    ensures writes { IfOk result (λ change. (world : List ℕ) → length world ≡ len → slice_index world cell ≡ word
+    ensures writes { IfOk result (λ change. (world : List ℕ) → length world ≡ len
+        → slice_index world cell ≡ word
         → writes_of world (Add cell by) ≡ change_writes (Add cell by) change) }
     ensures inside { OnOk result (cell < len) }
     ensures limit { IfOk result (λ change. IsWord change.first × IfSome change.second IsWord) }
@@ -69,8 +72,10 @@ pub(crate) fn check_transfer(
     requires second { IsWord second }
     ensures refuses { (world : List ℕ) → Shows world (Transfer from to amount) len first second
         → refusal_of world (Transfer from to amount) ≡ result_err result }
-    ensures writes { IfOk result (λ change. (world : List ℕ) → Shows world (Transfer from to amount) len first second
-        → writes_of world (Transfer from to amount) ≡ change_writes (Transfer from to amount) change) }
+    ensures writes { IfOk result (λ change. (world : List ℕ)
+        → Shows world (Transfer from to amount) len first second
+        → writes_of world (Transfer from to amount)
+        ≡ change_writes (Transfer from to amount) change) }
     ensures inside { OnOk result ((from < len) × (to < len)) }
     ensures limit { IfOk result (λ change. IsWord change.first × IfSome change.second IsWord) }
 {
@@ -104,7 +109,8 @@ pub(crate) fn check_swap(
     requires second { IsWord second }
     ensures refuses { (world : List ℕ) → Shows world (Swap a b) len first second
         → refusal_of world (Swap a b) ≡ result_err result }
-    ensures writes { IfOk result (λ change. (world : List ℕ) → Shows world (Swap a b) len first second
+    ensures writes { IfOk result (λ change. (world : List ℕ)
+        → Shows world (Swap a b) len first second
         → writes_of world (Swap a b) ≡ change_writes (Swap a b) change) }
     ensures inside { OnOk result ((a < len) × (b < len)) }
     ensures limit { IfOk result (λ change. IsWord change.first × IfSome change.second IsWord) }
@@ -126,7 +132,8 @@ pub(crate) fn check_cap(cell: u32, value: u64, len: usize, word: u64) -> Result<
     requires { IsWord word }
     ensures refuses { (world : List ℕ) → length world ≡ len
         → refusal_of world (Cap cell value) ≡ result_err result }
-    ensures writes { IfOk result (λ change. (world : List ℕ) → length world ≡ len → slice_index world cell ≡ word
+    ensures writes { IfOk result (λ change. (world : List ℕ) → length world ≡ len
+        → slice_index world cell ≡ word
         → writes_of world (Cap cell value) ≡ change_writes (Cap cell value) change) }
     ensures inside { OnOk result (cell < len) }
     ensures limit { IfOk result (λ change. IsWord change.first × IfSome change.second IsWord) }

@@ -1,8 +1,8 @@
 //! The actions of clients on a world of numbered words, and the reasons to refuse them.
 //!
-//! `Action` is a change that a client asks for. `Refusal` is the reason why any call of the product refuses. `check`
-//! decides an action from the two words that it can touch. Its contract gives the effect on the whole world, so no layer
-//! above looks at an action's kind to decide it.
+//! `Action` is a change that a client asks for. `Refusal` is the reason why any call of the product
+//! refuses. `check` decides an action from the two words that it can touch. Its contract gives the
+//! effect on the whole world, so no layer above looks at an action's kind to decide it.
 #![tactic(auto)]
 
 mod action;

@@ -11,6 +11,7 @@ pub const CELLS: u32 = 1_048_576;
 
 /// A law: the world after an accepted action is a world with as many cells.
 pub fn effect_keeps_world()
-    ensures { (world after : List ℕ) (action : Action) → IsWorld world → effect world action ≡ Ok after
+    ensures { (world after : List ℕ) (action : Action) → IsWorld world
+        → effect world action ≡ Ok after
         → IsWorld after × (length after ≡ length world) }
 {}

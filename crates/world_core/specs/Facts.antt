@@ -1,5 +1,6 @@
 -- The invariant of a core: its state agrees with its moves and their answers.
-use Rattle.std.specs.Prelude.{◌≡◌, ℕ, ◌-◌, ◌≤◌, List, [], ◌++◌, length, map, Bool, true, false, option_map, Ok, replicate}
+use Rattle.std.specs.Prelude.{◌≡◌, ℕ, ◌-◌, ◌≤◌, List, [], ◌++◌, length, map, Bool, true, false}
+use Rattle.std.specs.Prelude.{option_map, Ok, replicate}
 use Rattle.world_actions.specs.declared.action.Action.{Action}
 use Rattle.world_actions.specs.declared.world.TheConstants.{CELLS}
 use Rattle.world_ticks.specs.declared.tick.TheConstants.{TICK_MAX}
@@ -43,12 +44,14 @@ pub record IsCounted (past : Past) (state : State) : Type 0 where
   pub numbers : HasEnded past.history.ticks past.standing.since state.ended state.since
   pub open numbers use *
   pub queue_follows : QueueFollows state.log state.queue
-  pub queue_end : end_of state.log state.queue ≡ record { base = state.ended - state.since; count = state.since }
+  pub queue_end : end_of state.log state.queue
+      ≡ record { base = state.ended - state.since; count = state.since }
   pub taken : List Queued
   pub records : past.standing.records ≡ taken ++ map queued_of state.queue
 
 -- the words: those after the ended ticks and the running one
-pub record IsLive (cells : ℕ) (history : History) (words : List ℕ) (actions : List Action) : Type 0 where
+pub record IsLive (cells : ℕ) (history : History) (words : List ℕ)
+    (actions : List Action) : Type 0 where
   pub last : List ℕ
   pub after_ended : after_ticks (replicate cells 0) history.ticks ≡ Ok last
   pub live : after_actions last history.running ≡ Ok words
@@ -76,6 +79,7 @@ pub record IsCoreAt (past : Past) (state : State) : Type 0 where
   pub place : LogPlace
   pub has_images : HasImages state images
   pub has_log : HasLog state place
-  pub in_step : InStep (replicate state.cells 0) past.history.ticks past.acknowledged state.content images place.journal state.queue
+  pub in_step : InStep (replicate state.cells 0) past.history.ticks past.acknowledged state.content
+      images place.journal state.queue
   pub at_rest : IsAtRest place.journal state.running
   pub reported : AreReported past state images place

@@ -1,4 +1,5 @@
--- The ticks by moves and their answers: those that ended and no crash lost, the running one, and the acknowledged count.
+-- The ticks by moves and their answers: those that ended and no crash lost, the running one, and
+-- the acknowledged count.
 use Rattle.std.specs.Prelude.{ℕ, max, List, [], ◌∷◌, ◌++◌, take, Bool, true, false, ◌||◌}
 use Rattle.world_actions.specs.declared.action.Action.{Action}
 use Rattle.action_log.specs.declared.answer.LogAnswer.TheVariants as log_answer
@@ -17,11 +18,15 @@ pub record History : Type 0 where
 abbrev pub no_history : History
 no_history = record { ticks = []; running = [] }
 
--- The history after a move and its answer. A recovery keeps the first ticks. A crash that leaves no image keeps none.
+-- The history after a move and its answer. A recovery keeps the first ticks. A crash that leaves no
+-- image keeps none.
 abbrev pub history_after : History → Move → Answer → History
-history_after history (move.Act action) answer.Did = record history { running = history.running ++ action ∷ [] }
-history_after history move.End (answer.Ended tick) = record { ticks = history.ticks ++ history.running ∷ []; running = [] }
-history_after history (move.Crash left) (answer.Recovered tick from) = record { ticks = take tick history.ticks; running = [] }
+history_after history (move.Act action) answer.Did =
+    record history { running = history.running ++ action ∷ [] }
+history_after history move.End (answer.Ended tick) =
+    record { ticks = history.ticks ++ history.running ∷ []; running = [] }
+history_after history (move.Crash left) (answer.Recovered tick from) =
+    record { ticks = take tick history.ticks; running = [] }
 history_after history (move.Crash left) answer.Blank = no_history
 history_after history asked given = history
 
@@ -29,7 +34,8 @@ history_after history asked given = history
 abbrev pub history_of : History → List Move → List Answer → History
 history_of history [] answers = history
 history_of history (asked ∷ moves) [] = history
-history_of history (asked ∷ moves) (given ∷ answers) = history_of (history_after history asked given) moves answers
+history_of history (asked ∷ moves) (given ∷ answers) =
+    history_of (history_after history asked given) moves answers
 
 -- the ticks that ended and that no crash lost
 abbrev pub ended : List Move → List Answer → List (List Action)
@@ -43,7 +49,8 @@ acknowledged_after acknowledged given = acknowledged
 
 abbrev pub acknowledged_of : ℕ → List Answer → ℕ
 acknowledged_of acknowledged [] = acknowledged
-acknowledged_of acknowledged (given ∷ answers) = acknowledged_of (acknowledged_after acknowledged given) answers
+acknowledged_of acknowledged (given ∷ answers) =
+    acknowledged_of (acknowledged_after acknowledged given) answers
 
 abbrev pub acked : List Answer → ℕ
 acked answers = acknowledged_of 0 answers

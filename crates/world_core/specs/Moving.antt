@@ -1,5 +1,6 @@
 -- The effect of each move on the state of a core.
-use Rattle.std.specs.Prelude.{◌≡◌, ◌↔◌, ◌⊎◌, ◌<◌, Option, Some, None, ℕ, ◌+◌, Bool, List, [], ◌∷◌, ◌++◌, length, true, false, ◌&&◌, Ok}
+use Rattle.std.specs.Prelude.{◌≡◌, ◌↔◌, ◌⊎◌, ◌<◌, Option, Some, None, ℕ, ◌+◌, Bool, List, [], ◌∷◌}
+use Rattle.std.specs.Prelude.{◌++◌, length, true, false, ◌&&◌, Ok}
 use Rattle.world_actions.specs.declared.action.Action.{Action}
 use Rattle.world_actions.specs.Effect.{writes_of}
 use Rattle.world_ticks.specs.Tick.{Actions, decision}
@@ -44,12 +45,22 @@ pub record DoesAction (old : State) (action : Action) (new : State) : Type 0 whe
 -- the running tick ends, and is queued
 abbrev pub EndsTick : (old new : State) → Type 0
 EndsTick old new = (tick : Actions) × (tick.list ≡ old.running)
-    × (new ≡ record old { running = []; ended = old.ended + 1; since = old.since + 1; queue = old.queue ++ records.Tick tick ∷ [] })
+    × (new ≡ record old {
+      running = [];
+      ended = old.ended + 1;
+      since = old.since + 1;
+      queue = old.queue ++ records.Tick tick ∷ [];
+    })
 
 -- the store is marked, and the round of the ended ticks begins
 abbrev pub BeginsRound : (old new : State) → Type 0
 BeginsRound old new = Marks old.content new.content
-    × (new ≡ record old { content = new.content; since = 0; images = begun_keeper old.ended old.images; queue = old.queue ++ records.Switch old.ended ∷ [] })
+    × (new ≡ record old {
+      content = new.content;
+      since = 0;
+      images = begun_keeper old.ended old.images;
+      queue = old.queue ++ records.Switch old.ended ∷ [];
+    })
 
 -- how many calls of a file are left to the file itself before one is made to fail, if one is
 abbrev pub calls_before_failure : Fate → Option ℕ
@@ -58,16 +69,21 @@ calls_before_failure fate_.Failed = Some 0
 
 -- a call of a file: with Done the file itself decides it, and with Failed it fails
 abbrev pub CallsBy : Fate → (old : File) → Call → (succeeded : Bool) → (new : File) → Type 0
-CallsBy fate_.Done old call succeeded new = Calls old.inner call succeeded new.inner × (new.faults ≡ old.faults)
+CallsBy fate_.Done old call succeeded new =
+    Calls old.inner call succeeded new.inner × (new.faults ≡ old.faults)
 CallsBy fate_.Failed old call succeeded new = (succeeded ≡ false) × Fails Calls old call new
 
--- The failures that a fate brings. With Done a call fails only by the file itself. With Failed the keeper goes down, unless
--- the step makes no call, as long as the failures of both files can be counted.
+-- The failures that a fate brings. With Done a call fails only by the file itself. With
+-- Failed the keeper goes down, unless the step makes no call, as long as the failures of both
+-- files can be counted.
 abbrev pub FailsBy : Fate → (is_down calls_none : Type 0) → (a b new_a new_b : File) → Type 0
-FailsBy fate_.Done is_down calls_none a b new_a new_b = (new_a.faults ≡ a.faults) × (new_b.faults ≡ b.faults)
-FailsBy fate_.Failed is_down calls_none a b new_a new_b = failures a < last_count → failures b < last_count → is_down ⊎ calls_none
+FailsBy fate_.Done is_down calls_none a b new_a new_b =
+    (new_a.faults ≡ a.faults) × (new_b.faults ≡ b.faults)
+FailsBy fate_.Failed is_down calls_none a b new_a new_b =
+    failures a < last_count → failures b < last_count → is_down ⊎ calls_none
 
--- a step of the image keeper makes no call if no round is in work, if it takes a cell, or once a call has failed
+-- a step of the image keeper makes no call if no round is in work, if it takes a cell, or once
+-- a call has failed
 abbrev pub CallsNone : Phase → Type 0
 CallsNone Idle = Unit {0}
 CallsNone Taking = Unit {0}
@@ -75,42 +91,67 @@ CallsNone Down = Unit {0}
 CallsNone phase = ⊥
 
 -- a step of the image keeper
-pub record StepsImageKeeper (fate : Fate) (old : State) (given : ImageAnswer) (new : State) : Type 0 where
-  pub rest : new ≡ record old { content = new.content; images = new.images; image_a = new.image_a; image_b = new.image_b }
-  pub stands : (images : ImageFiles) → HasImages old images → (next : ImageFiles) × HasImages new next × StepsImages Takes old.images.cells images given next old.content new.content
+pub record StepsImageKeeper (fate : Fate) (old : State) (given : ImageAnswer)
+    (new : State) : Type 0 where
+  pub rest : new ≡ record old {
+    content = new.content;
+    images = new.images;
+    image_a = new.image_a;
+    image_b = new.image_b;
+  }
+  pub stands : (images : ImageFiles) → HasImages old images
+      → (next : ImageFiles) × HasImages new next
+      × StepsImages Takes old.images.cells images given next old.content new.content
   pub cells : new.images.cells ≡ old.images.cells
   pub idle : (given ≡ image_answer.Idle) ↔ (old.images.phase ≡ Idle)
   pub down : (given ≡ image_answer.Down) ↔ (new.images.phase ≡ Down)
   pub stays_down : old.images.phase ≡ Down → given ≡ image_answer.Down
-  pub cause : given ≡ image_answer.Down → (old.images.phase ≡ Down) ⊎ HasFailed old.image_a new.image_a old.image_b new.image_b
-  pub fails : FailsBy fate (given ≡ image_answer.Down) (CallsNone old.images.phase) old.image_a old.image_b new.image_a new.image_b
-  -- The phase decides: no file is called, or one file once, either the one that the round writes or the newest image's.
+  pub cause : given ≡ image_answer.Down
+      → (old.images.phase ≡ Down) ⊎ HasFailed old.image_a new.image_a old.image_b new.image_b
+  pub fails : FailsBy fate (given ≡ image_answer.Down) (CallsNone old.images.phase) old.image_a
+      old.image_b new.image_a new.image_b
+  -- The phase decides: no file is called, or one file once, either the one that the round writes or
+  -- the newest image's.
   pub calls : ImageCallsIn old.images.phase (CallsBy fate)
-      (of_slot (target_of old.images.newest) old.image_a old.image_b) (of_slot (target_of old.images.newest) new.image_a new.image_b)
-      (of_slot (target_of old.images.newest) old.image_b old.image_a) (of_slot (target_of old.images.newest) new.image_b new.image_a)
+      (of_slot (target_of old.images.newest) old.image_a old.image_b)
+      (of_slot (target_of old.images.newest) new.image_a new.image_b)
+      (of_slot (target_of old.images.newest) old.image_b old.image_a)
+      (of_slot (target_of old.images.newest) new.image_b new.image_a)
   -- Working leaves less work, unless a take gave no cell while cells were still to be taken.
-  pub working : OnWorking given ((left_of new.images < left_of old.images) ⊎ ((cells_taken old.images < old.images.cells) × Takes old.content None new.content))
+  pub working : OnWorking given ((left_of new.images < left_of old.images)
+      ⊎ ((cells_taken old.images < old.images.cells) × Takes old.content None new.content))
   pub opened : IfOpened given (new.images ≡ opened_keeper old.images) (Unit {0})
 
 -- a step of the log keeper
-pub record StepsLogKeeper (fate : Fate) (old : State) (given : LogAnswer) (new : State) : Type 0 where
-  pub rest : new ≡ record old { queue = new.queue; log = new.log; log_a = new.log_a; log_b = new.log_b }
+pub record StepsLogKeeper (fate : Fate) (old : State) (given : LogAnswer)
+    (new : State) : Type 0 where
+  pub rest : new
+      ≡ record old { queue = new.queue; log = new.log; log_a = new.log_a; log_b = new.log_b }
   pub front : old.queue ≡ taken old.log old.queue ++ new.queue
-  pub stands : (place : LogPlace) → HasLog old place → (next : LogPlace) × HasLog new next × JournalStep place old.queue given next new.queue
+  pub stands : (place : LogPlace) → HasLog old place
+      → (next : LogPlace) × HasLog new next × JournalStep place old.queue given next new.queue
   pub follows : QueueFollows new.log new.queue
   pub end : end_of new.log new.queue ≡ end_of old.log old.queue
-  pub idle : (given ≡ log_answer.Idle) ↔ ((old.log.down ≡ false) × (old.log.phase ≡ Ready) × (old.queue ≡ []))
-  pub receipt : (tick : ℕ) → (given ≡ log_answer.Acked tick) ↔ ((old.log.phase ≡ GateSync) × (old.log.down ≡ false) × (new.log.down ≡ false) × (tick ≡ new.log.base + new.log.count))
+  pub idle : (given ≡ log_answer.Idle)
+      ↔ ((old.log.down ≡ false) × (old.log.phase ≡ Ready) × (old.queue ≡ []))
+  pub receipt : (tick : ℕ) → (given ≡ log_answer.Acked tick)
+      ↔ ((old.log.phase ≡ GateSync) × (old.log.down ≡ false) × (new.log.down ≡ false)
+      × (tick ≡ new.log.base + new.log.count))
   pub down : (given ≡ log_answer.Down) ↔ (new.log.down ≡ true)
-  pub rests : (given ≡ log_answer.Idle) ⊎ (old.log.down ≡ true) → (new.log ≡ old.log) × (new.queue ≡ old.queue) × (new.log_a ≡ old.log_a) × (new.log_b ≡ old.log_b)
-  -- The phase and the record in front decide: no file is called, or one file once, either the current segment's or the other
-  -- one.
+  pub rests : (given ≡ log_answer.Idle) ⊎ (old.log.down ≡ true) → (new.log ≡ old.log)
+      × (new.queue ≡ old.queue) × (new.log_a ≡ old.log_a) × (new.log_b ≡ old.log_b)
+  -- The phase and the record in front decide: no file is called, or one file once, either the
+  -- current segment's or the other one.
   pub calls : old.log.down ≡ false → LogCallsIn (CallsBy fate)
       (of_slot old.log.current old.log_a old.log_b) (of_slot old.log.current new.log_a new.log_b)
-      (of_slot old.log.current old.log_b old.log_a) (of_slot old.log.current new.log_b new.log_a) old.log.phase old.queue
-  pub cause : given ≡ log_answer.Down → (old.log.down ≡ true) ⊎ HasFailed old.log_a new.log_a old.log_b new.log_b
-  pub fails : FailsBy fate (given ≡ log_answer.Down) (given ≡ log_answer.Idle) old.log_a old.log_b new.log_a new.log_b
-  pub lowers : new.log.down ≡ false → 0 < work_of old.log old.queue → work_of new.log new.queue < work_of old.log old.queue
+      (of_slot old.log.current old.log_b old.log_a)
+      (of_slot old.log.current new.log_b new.log_a) old.log.phase old.queue
+  pub cause : given ≡ log_answer.Down
+      → (old.log.down ≡ true) ⊎ HasFailed old.log_a new.log_a old.log_b new.log_b
+  pub fails : FailsBy fate (given ≡ log_answer.Down) (given ≡ log_answer.Idle) old.log_a
+      old.log_b new.log_a new.log_b
+  pub lowers : new.log.down ≡ false → 0 < work_of old.log old.queue
+      → work_of new.log new.queue < work_of old.log old.queue
 
 -- the records before the switch at this tick leave the queue
 pub record CoversQueue (tick : ℕ) (old : State) (given : LogAnswer) (new : State) : Type 0 where
@@ -122,15 +163,20 @@ pub record CoversQueue (tick : ℕ) (old : State) (given : LogAnswer) (new : Sta
 abbrev pub Waits : State → Type 0
 Waits state = (state.log.starting && is_in_round state.images.phase) ≡ true
 
--- The effect of a move on the state, by its answer. A refused move, a read and a Log move that waits change nothing.
+-- The effect of a move on the state, by its answer. A refused move, a read and a Log move that
+-- waits change nothing.
 abbrev pub Does : Move → (old : State) → Answer → (new : State) → Type 0
 Does (move.Act action) old answer.Did new = DoesAction old action new
 Does move.End old (answer.Ended tick) new = EndsTick old new
 Does move.Mark old (answer.Started tick) new = BeginsRound old new
 Does (move.Image fate) old (answer.Image given) new = StepsImageKeeper fate old given new
-Does (move.Log fate) old (answer.Log given) new = (Waits old × (given ≡ log_answer.Idle) × (new ≡ old)) ⊎ StepsLogKeeper fate old given new
+Does (move.Log fate) old (answer.Log given) new =
+    (Waits old × (given ≡ log_answer.Idle) × (new ≡ old)) ⊎ StepsLogKeeper fate old given new
 Does (move.Cover tick) old (answer.Log given) new = CoversQueue tick old given new
 Does (move.Crash left) old (answer.Recovered tick from) new =
-    StandsOn old.cells left.image_a.items left.image_b.items left.log_a.items left.log_b.items (answer.Recovered tick from) new
-Does (move.Crash left) old answer.Blank new = StandsOn old.cells left.image_a.items left.image_b.items left.log_a.items left.log_b.items answer.Blank new
+    StandsOn old.cells left.image_a.items left.image_b.items left.log_a.items left.log_b.items
+    (answer.Recovered tick from) new
+Does (move.Crash left) old answer.Blank new =
+    StandsOn old.cells left.image_a.items left.image_b.items left.log_a.items
+    left.log_b.items answer.Blank new
 Does asked old given new = new ≡ old

@@ -13,7 +13,12 @@ pub record Past : Type 0 where
 
 -- the past of a new core, on four empty files
 abbrev pub fresh_past : Past
-fresh_past = record { history = no_history; acknowledged = 0; has_image = false; standing = standing_at 0 0 true false false }
+fresh_past = record {
+  history = no_history;
+  acknowledged = 0;
+  has_image = false;
+  standing = standing_at 0 0 true false false;
+}
 
 abbrev pub past_after : Past → Move → Answer → Past
 past_after past asked given = record {

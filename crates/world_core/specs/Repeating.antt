@@ -1,5 +1,7 @@
--- Moves of one keeper until it is idle or down, and the start, which consists of such moves of both.
-use Rattle.std.specs.Prelude.{◌≡◌, ◌⊎◌, ℕ, ◌+◌, ◌≤◌, true, false, None, List, [], ◌∷◌, ◌++◌, length, replicate}
+-- Moves of one keeper until it is idle or down, and the start, which consists of such
+-- moves of both.
+use Rattle.std.specs.Prelude.{◌≡◌, ◌⊎◌, ℕ, ◌+◌, ◌≤◌, true, false, None, List, [], ◌∷◌, ◌++◌, length}
+use Rattle.std.specs.Prelude.{replicate}
 use Rattle.disk_model.specs.declared.leaving.Leaving.{Leaving}
 use Rattle.disk_model.specs.Leaving.{left_by}
 use Rattle.disk_model.specs.FileState.{FileState}
@@ -39,7 +41,8 @@ AllGoOn (given ∷ answers) = GoesOn given × AllGoOn answers
 
 -- the last news after this answer; an opened image or a receipt is news
 abbrev pub reported_by : Answer → Answer → Answer
-reported_by reported (answer.Image (image_answer.Opened tick)) = answer.Image (image_answer.Opened tick)
+reported_by reported (answer.Image (image_answer.Opened tick)) =
+    answer.Image (image_answer.Opened tick)
 reported_by reported (answer.Log (log_answer.Acked tick)) = answer.Log (log_answer.Acked tick)
 reported_by reported given = reported
 
@@ -50,13 +53,15 @@ reported_of reported (given ∷ answers) = reported_of (reported_by reported giv
 -- the result in the end: Down, or the last news if the keeper is idle
 abbrev pub IsReportedAtEnd : (last reported result : Answer) → Type 0
 IsReportedAtEnd (answer.Image image_answer.Idle) reported result = result ≡ reported
-IsReportedAtEnd (answer.Image image_answer.Down) reported result = result ≡ answer.Image image_answer.Down
+IsReportedAtEnd (answer.Image image_answer.Down) reported result =
+    result ≡ answer.Image image_answer.Down
 IsReportedAtEnd (answer.Log log_answer.Idle) reported result = result ≡ reported
 IsReportedAtEnd (answer.Log log_answer.Down) reported result = result ≡ answer.Log log_answer.Down
 IsReportedAtEnd last reported result = ⊥
 
 -- the same move is repeated until its keeper is idle or down
-pub record AreRepeats (asked : Move) (moves : List Move) (answers : List Answer) (idle result : Answer) : Type 0 where
+pub record AreRepeats (asked : Move) (moves : List Move) (answers : List Answer)
+    (idle result : Answer) : Type 0 where
   pub front : List Answer
   pub last : Answer
   pub moves_are : moves ≡ replicate (length front + 1) asked
@@ -65,13 +70,15 @@ pub record AreRepeats (asked : Move) (moves : List Move) (answers : List Answer)
   pub reported : IsReportedAtEnd last (reported_of idle front) result
 
 -- moves lead from a core of this past to one of that past
-pub record RunsOn (past : Past) (old : State) (moves : List Move) (answers : List Answer) (next : Past) (new : State) : Type 0 where
+pub record RunsOn (past : Past) (old : State) (moves : List Move) (answers : List Answer)
+    (next : Past) (new : State) : Type 0 where
   pub runs : Runs past old moves answers new
   pub next_is : next ≡ past_of past moves answers
   pub stands : IsCoreAt next new
 
 -- one move is repeated until its keeper is idle or down, at most `most` times and once more
-pub record Repeats (asked : Move) (idle : Answer) (most : ℕ) (past : Past) (old : State) (reported : Answer) (next : Past) (new : State) : Type 0 where
+pub record Repeats (asked : Move) (idle : Answer) (most : ℕ) (past : Past) (old : State)
+    (reported : Answer) (next : Past) (new : State) : Type 0 where
   pub moves : List Move
   pub answers : List Answer
   pub all : AreRepeats asked moves answers idle reported
@@ -80,11 +87,15 @@ pub record Repeats (asked : Move) (idle : Answer) (most : ℕ) (past : Past) (ol
 
 -- steps of the image keeper, at most one more than the open round has left
 abbrev pub RepeatsImages : Fate → Past → State → (reported : ImageAnswer) → Past → State → Type 0
-RepeatsImages fate past old reported next new = Repeats (move.Image fate) (answer.Image image_answer.Idle) (left_of old.images) past old (answer.Image reported) next new
+RepeatsImages fate past old reported next new =
+    Repeats (move.Image fate) (answer.Image image_answer.Idle) (left_of old.images) past old
+    (answer.Image reported) next new
 
 -- steps of the log keeper, at most one more than its job and its queue need
 abbrev pub RepeatsLog : Fate → Past → State → (reported : LogAnswer) → Past → State → Type 0
-RepeatsLog fate past old reported next new = Repeats (move.Log fate) (answer.Log log_answer.Idle) (work_of old.log old.queue) past old (answer.Log reported) next new
+RepeatsLog fate past old reported next new =
+    Repeats (move.Log fate) (answer.Log log_answer.Idle) (work_of old.log old.queue) past old
+    (answer.Log reported) next new
 
 -- a start: steps of the image keeper, and then of the log keeper
 pub record RunsStart (past : Past) (old : State) (next : Past) (new : State) : Type 0 where
@@ -104,11 +115,15 @@ ImagesSettled standing = (standing.round ≡ None) ⊎ (standing.is_image_down �
 -- the log keeper is down, or waits for the start's image, or has no work and isn't in a start
 abbrev pub LogSettled : Standing → State → Type 0
 LogSettled standing state =
-    (standing.is_log_down ≡ true) ⊎ ((is_log_waiting standing ≡ true) ⊎ ((work_of state.log state.queue ≡ 0) × (is_starting standing ≡ false)))
+    (standing.is_log_down ≡ true)
+    ⊎ ((is_log_waiting standing ≡ true)
+    ⊎ ((work_of state.log state.queue ≡ 0) × (is_starting standing ≡ false)))
 
 -- the start has ended, or a keeper is down
 abbrev pub StartSettled : Standing → Type 0
-StartSettled standing = (is_starting standing ≡ false) ⊎ ((standing.is_image_down ≡ true) ⊎ (standing.is_log_down ≡ true))
+StartSettled standing =
+    (is_starting standing ≡ false)
+    ⊎ ((standing.is_image_down ≡ true) ⊎ (standing.is_log_down ≡ true))
 
 -- ---- files
 

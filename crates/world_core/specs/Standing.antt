@@ -1,8 +1,13 @@
--- The state of core and keepers as far as moves and their answers show it, and the refusal that holds.
-use Rattle.std.specs.Prelude.{ℕ, ◌+◌, ◌-◌, List, [], ◌∷◌, ◌++◌, length, Bool, true, false, not, nat_eq, nat_lt, nat_le, ◌&&◌, Option, Some, None, is_some, Result, Ok, Err, slice_index, if◌then◌else◌}
+-- The state of core and keepers as far as moves and their answers show it, and the
+-- refusal that holds.
+use Rattle.std.specs.Prelude.{ℕ, ◌+◌, ◌-◌, List, [], ◌∷◌, ◌++◌, length, Bool, true, false, not}
+use Rattle.std.specs.Prelude.{nat_eq, nat_lt, nat_le, ◌&&◌, Option, Some, None, is_some, Result, Ok}
+use Rattle.std.specs.Prelude.{Err, slice_index, if◌then◌else◌}
 use Rattle.world_actions.specs.declared.action.Action.{Action}
 use Rattle.world_actions.specs.declared.refusal.Refusal.{Refusal}
-use Rattle.world_actions.specs.declared.refusal.Refusal.TheVariants.{BadCell, QueueFull, OpenTick, Busy, NothingNew, ImageDown, LogDown, Starting, Uncovered}
+use Rattle.world_actions.specs.declared.refusal.Refusal.TheVariants.{BadCell, QueueFull, OpenTick}
+use Rattle.world_actions.specs.declared.refusal.Refusal.TheVariants.{Busy, NothingNew, ImageDown}
+use Rattle.world_actions.specs.declared.refusal.Refusal.TheVariants.{LogDown, Starting, Uncovered}
 use Rattle.world_actions.specs.Effect.{is_outside}
 use Rattle.action_log.specs.declared.record.Record.{Record}
 use Rattle.action_log.specs.declared.record.Record.TheVariants as record_
@@ -29,8 +34,9 @@ queued_of (record_.Switch tick) = QueuedSwitch tick
 abbrev pub queue_most : ℕ
 queue_most = 64
 
--- The tick of the newest image, 0 before the first. The tick of the open round. Which keeper is down. How many Log moves the
--- start has left. How many ticks ended since the last mark or start. The records of the ends and marks since the start.
+-- The tick of the newest image, 0 before the first. The tick of the open round. Which keeper is
+-- down. How many Log moves the start has left. How many ticks ended since the last mark or start.
+-- The records of the ends and marks since the start.
 pub record Standing : Type 0 where
   pub newest : ℕ
   pub round : Option ℕ
@@ -45,8 +51,8 @@ abbrev pub start_round : (has_round : Bool) → (tick : ℕ) → Option ℕ
 start_round true tick = Some tick
 start_round false tick = None
 
--- The beginning of a start at the tick `tick`, from the image of the tick `from`. The last two flags say which log segments
--- are shut.
+-- The beginning of a start at the tick `tick`, from the image of the tick `from`. The last two
+-- flags say which log segments are shut.
 abbrev pub standing_at : (from tick : ℕ) → (has_round shut_a shut_b : Bool) → Standing
 standing_at from tick has_round shut_a shut_b = record {
   newest = from;
@@ -60,12 +66,23 @@ standing_at from tick has_round shut_a shut_b = record {
 
 -- after a move and its answer, if this was the running tick
 abbrev pub standing_after : Standing → (running : List Action) → Move → Answer → Standing
-standing_after standing running move.End (answer.Ended tick) = record standing { since = standing.since + 1; records = standing.records ++ QueuedTick running ∷ [] }
-standing_after standing running move.Mark (answer.Started tick) = record standing { round = Some tick; since = 0; records = standing.records ++ QueuedSwitch tick ∷ [] }
-standing_after standing running (move.Image fate) (answer.Image (image_answer.Opened tick)) = record standing { newest = tick; round = None }
-standing_after standing running (move.Image fate) (answer.Image image_answer.Down) = record standing { is_image_down = true }
-standing_after standing running (move.Log fate) (answer.Log log_answer.Working) = record standing { start_left = standing.start_left - 1 }
-standing_after standing running (move.Log fate) (answer.Log log_answer.Down) = record standing { is_log_down = true }
+standing_after standing running move.End (answer.Ended tick) = record standing {
+  since = standing.since + 1;
+  records = standing.records ++ QueuedTick running ∷ [];
+}
+standing_after standing running move.Mark (answer.Started tick) = record standing {
+  round = Some tick;
+  since = 0;
+  records = standing.records ++ QueuedSwitch tick ∷ [];
+}
+standing_after standing running (move.Image fate) (answer.Image (image_answer.Opened tick)) =
+    record standing { newest = tick; round = None }
+standing_after standing running (move.Image fate) (answer.Image image_answer.Down) =
+    record standing { is_image_down = true }
+standing_after standing running (move.Log fate) (answer.Log log_answer.Working) =
+    record standing { start_left = standing.start_left - 1 }
+standing_after standing running (move.Log fate) (answer.Log log_answer.Down) =
+    record standing { is_log_down = true }
 standing_after standing running (move.Crash left) (answer.Recovered tick from) =
     standing_at from tick (nat_lt from tick) (is_shut left.log_a.items) (is_shut left.log_b.items)
 standing_after standing running (move.Crash left) answer.Blank =
@@ -92,7 +109,8 @@ tick_refusal is_starting is_log_down ended since =
     if is_starting then Some Starting else log_tick_refusal is_log_down ended since
 
 -- the refusal of a mark, if one holds
-abbrev pub mark_refusal : (is_starting is_log_down is_image_down is_round_open : Bool) → (ended newest queued : ℕ) → (running : List Action) → Option Refusal
+abbrev pub mark_refusal : (is_starting is_log_down is_image_down is_round_open : Bool)
+    → (ended newest queued : ℕ) → (running : List Action) → Option Refusal
 mark_refusal is_starting is_log_down is_image_down is_round_open ended newest queued running =
     if is_starting then Some Starting else
     if is_log_down then Some LogDown else
@@ -122,15 +140,21 @@ action_answer (Ok words) = answer.Did
 action_answer (Err refusal) = answer.Refused refusal
 
 abbrev pub get_answer : (words : List ℕ) → (cell : ℕ) → Answer
-get_answer words cell = if is_outside words cell then answer.Refused BadCell else answer.Word (slice_index words cell)
+get_answer words cell =
+    if is_outside words cell then answer.Refused BadCell else answer.Word (slice_index words cell)
 
 abbrev pub end_answer : Option Refusal → (ended queued : ℕ) → Answer
-end_answer refusal ended queued = unless_refused refusal (if nat_le queue_most queued then answer.Refused QueueFull else answer.Ended (ended + 1))
+end_answer refusal ended queued =
+    unless_refused refusal
+    (if nat_le queue_most queued then answer.Refused QueueFull else answer.Ended (ended + 1))
 
 -- the refusals by the state of core and keepers
-abbrev pub mark_refusal_at : Standing → (ended queued : ℕ) → (running : List Action) → Option Refusal
+abbrev pub mark_refusal_at : Standing → (ended queued : ℕ)
+    → (running : List Action) → Option Refusal
 mark_refusal_at standing ended queued running =
-    mark_refusal (is_starting standing) standing.is_log_down standing.is_image_down (is_round_open standing) ended standing.newest queued running
+    mark_refusal (is_starting standing) standing.is_log_down standing.is_image_down
+    (is_round_open standing) ended standing.newest queued running
 
 abbrev pub cover_refusal_at : Standing → (tick : ℕ) → Option Refusal
-cover_refusal_at standing tick = cover_refusal (is_starting standing) standing.is_log_down standing.newest tick
+cover_refusal_at standing tick =
+    cover_refusal (is_starting standing) standing.is_log_down standing.newest tick

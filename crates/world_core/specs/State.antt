@@ -21,8 +21,9 @@ use Rattle.action_log.specs.Stands.{Stands as LogStands}
 abbrev pub File : Type 0
 File = Fuse FileState
 
--- The number of cells, the store, and the actions of the running tick. How many ticks have ended, and how many since the
--- last mark or start. The records that wait for the log, the two keepers, and the four files.
+-- The number of cells, the store, and the actions of the running tick. How many ticks have ended,
+-- and how many since the last mark or start. The records that wait for the log, the two keepers,
+-- and the four files.
 pub record State : Type 0 where
   pub cells : ℕ
   pub content : Content
@@ -39,7 +40,12 @@ pub record State : Type 0 where
 
 -- its four files, without the fuses that make their calls fail
 abbrev pub files_in : State → FourFiles FileState
-files_in state = record { image_a = state.image_a.inner; image_b = state.image_b.inner; log_a = state.log_a.inner; log_b = state.log_b.inner }
+files_in state = record {
+  image_a = state.image_a.inner;
+  image_b = state.image_b.inner;
+  log_a = state.log_a.inner;
+  log_b = state.log_b.inner;
+}
 
 -- a call of the image keeper failed
 abbrev pub is_down : Phase → Bool
@@ -57,19 +63,23 @@ failures file = fault_count (λ (below : FileState). min below.faults last_count
 
 -- a call of one of two files failed
 abbrev pub HasFailed : (one_before one_after other_before other_after : File) → Type 0
-HasFailed one_before one_after other_before other_after = Grew (failures one_before) (failures one_after) ⊎ Grew (failures other_before) (failures other_after)
+HasFailed one_before one_after other_before other_after =
+    Grew (failures one_before) (failures one_after)
+    ⊎ Grew (failures other_before) (failures other_after)
 
 -- an image keeper and its files represent these images
 abbrev pub ImagesIn : ImageProgress → ImageFiles → (image_a image_b : FileState) → Type 0
 ImagesIn keeper images image_a image_b =
-    ImagesStand keeper images image_a.content image_b.content (IsCrashOutcome image_a) (IsCrashOutcome image_b)
+    ImagesStand keeper images image_a.content image_b.content
+    (IsCrashOutcome image_a) (IsCrashOutcome image_b)
 
 abbrev pub HasImages : State → ImageFiles → Type 0
 HasImages state images = ImagesIn state.images images state.image_a.inner state.image_b.inner
 
 -- a log keeper and its files represent this log
 abbrev pub LogIn : LogProgress → LogPlace → (log_a log_b : FileState) → Type 0
-LogIn keeper place log_a log_b = LogStands keeper log_a.content log_b.content (IsCrashOutcome log_a) (IsCrashOutcome log_b) place
+LogIn keeper place log_a log_b =
+    LogStands keeper log_a.content log_b.content (IsCrashOutcome log_a) (IsCrashOutcome log_b) place
 
 abbrev pub HasLog : State → LogPlace → Type 0
 HasLog state place = LogIn state.log place state.log_a.inner state.log_b.inner

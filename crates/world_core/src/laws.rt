@@ -13,8 +13,8 @@ use world_ticks::actions_go_on;
 /// A file of a core, with a fuse that can make its calls fail.
 type File = Fused<ModelFile>;
 
-/// Laws: store, images, log and queue begin in step with the ticks, and each event keeps them in step. They are the same for
-/// every kind of store, so the plain copy represents any.
+/// Laws: store, images, log and queue begin in step with the ticks, and each event keeps them in
+/// step. They are the same for every kind of store, so the plain copy represents any.
 pub fn event_laws()
     ensures { EventLaws }
 {
@@ -30,7 +30,8 @@ pub fn queue_laws()
     log_queues();
 }
 
-/// Laws: the keepers with their files represent images and a log, and the flags of shut gates are correct.
+/// Laws: the keepers with their files represent images and a log, and the flags of shut
+/// gates are correct.
 pub fn keeper_laws()
     ensures { KeeperLaws }
 {
@@ -47,7 +48,8 @@ pub fn outcome_laws()
     log_outcomes::<File>();
 }
 
-/// Laws: the files of a core in step are safe, and a crash begins the next start. Each file has only one reading.
+/// Laws: the files of a core in step are safe, and a crash begins the next start. Each file has
+/// only one reading.
 pub fn safety_laws()
     ensures { SafetyLaws }
 {
@@ -58,8 +60,9 @@ pub fn safety_laws()
     segments_read_once();
 }
 
-/// Laws: the files of a core are safe for the ended ticks and the acknowledged count. So `Core::step` keeps the promise of
-/// `run`, move by move. Before the first image, recovery of safe files finds no image, or the first words at tick 0.
+/// Laws: the files of a core are safe for the ended ticks and the acknowledged count. So
+/// `Core::step` keeps the promise of `run`, move by move. Before the first image, recovery of safe
+/// files finds no image, or the first words at tick 0.
 pub fn cores_are_safe()
     ensures safe { CoresAreSafe }
     ensures fresh { FreshAreRecovered }
@@ -67,8 +70,9 @@ pub fn cores_are_safe()
     safety_laws();
 }
 
-/// Laws: no crash leaves an empty log of a core after its first tick. None leaves an empty image after an image of a tick above
-/// 0 was opened. A fresh core has what this rests on, and each move keeps it.
+/// Laws: no crash leaves an empty log of a core after its first tick. None leaves an empty
+/// image after an image of a tick above 0 was opened. A fresh core has what this rests on, and
+/// each move keeps it.
 pub fn cores_stay_written()
     ensures { StayWritten }
 {

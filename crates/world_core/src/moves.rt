@@ -27,7 +27,8 @@ pub enum Move {
     Image(Fate),
     /// A step of the log keeper: at most one call of a device.
     Log(Fate),
-    /// The records before the switch at this tick leave the queue: an image that was opened has their ticks.
+    /// The records before the switch at this tick leave the queue: an image that was opened
+    /// has their ticks.
     Cover(u64),
     /// A crash that leaves these bytes of the four files, and the restart.
     Crash(Remains),

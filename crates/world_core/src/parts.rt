@@ -78,7 +78,8 @@ impl<C: Capture> Parts<C> {
     pub fn tick_refusal(&self) -> Option<Refusal>
         ensures refusal { result ≡ tick_refusal self.now.log.starting self.now.log.down
             self.now.ended self.now.since }
-        ensures room { IfNone result ((self.now.ended < TICK_MAX) × (self.now.since < SEGMENT_TICKS)) }
+        ensures room { IfNone result
+            ((self.now.ended < TICK_MAX) × (self.now.since < SEGMENT_TICKS)) }
     {
         if self.log.starting() {
             Some(Refusal::Starting)

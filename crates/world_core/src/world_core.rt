@@ -21,8 +21,8 @@ use world_actions::{Action, Refusal};
 mod files;
 mod repeating;
 
-/// A world with its store, its keepers and its four files, which answers one move at a time. Contracts
-/// see it as a `State`, whatever its store.
+/// A world with its store, its keepers and its four files, which answers one move at a time.
+/// Contracts see it as a `State`, whatever its store.
 #[derive(Drop)]
 pub struct Core<C: Capture> {
     parts: Parts<C>,
@@ -72,12 +72,13 @@ impl<C: Capture> Core<C> {
         self.parts.newest_tick()
     }
 
-    /// Makes one move. All that moves and answers say of ticks, images and keepers stays true of the core. The answer is
-    /// exact, and the new state is the one that it names.
+    /// Makes one move. All that moves and answers say of ticks, images and keepers stays true of
+    /// the core. The answer is exact, and the new state is the one that it names.
     pub fn step(&mut self, asked: Move) -> Answer
         ensures keeps { (past : Past) → IsCoreAt past self.old
             → IsCoreAt (past_after past asked result) self.new }
-        ensures exact { (past : Past) → IsCoreAt past self.old → IsExact past self.old asked result }
+        ensures exact { (past : Past) → IsCoreAt past self.old
+            → IsExact past self.old asked result }
         ensures does { Does asked self.old result self.new }
         ensures progress { Progresses asked result self.old self.new }
         ensures cells { self.new.cells ≡ self.old.cells }
@@ -128,7 +129,8 @@ impl<C: Capture> Core<C> {
     fn end(&mut self) -> Answer
         ensures keeps { (past : Past) → IsCoreAt past self.old
             → IsCoreAt (past_after past Move.End result) self.new }
-        ensures exact { (past : Past) → IsCoreAt past self.old → IsExact past self.old Move.End result }
+        ensures exact { (past : Past) → IsCoreAt past self.old
+            → IsExact past self.old Move.End result }
         ensures does { Does Move.End self.old result self.new }
         ensures cells { self.new.cells ≡ self.old.cells }
         ensures refused { (refusal : _) → result ≡ Answer.Refused refusal → self.new ≡ self.old }
@@ -148,7 +150,8 @@ impl<C: Capture> Core<C> {
     fn mark(&mut self) -> Answer
         ensures keeps { (past : Past) → IsCoreAt past self.old
             → IsCoreAt (past_after past Move.Mark result) self.new }
-        ensures exact { (past : Past) → IsCoreAt past self.old → IsExact past self.old Move.Mark result }
+        ensures exact { (past : Past) → IsCoreAt past self.old
+            → IsExact past self.old Move.Mark result }
         ensures does { Does Move.Mark self.old result self.new }
         ensures cells { self.new.cells ≡ self.old.cells }
         ensures refused { (refusal : _) → result ≡ Answer.Refused refusal → self.new ≡ self.old }

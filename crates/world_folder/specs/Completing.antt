@@ -1,5 +1,7 @@
--- The files of a folder in which a world is to be made: those that are there, and those that are made.
-use Rattle.std.specs.Prelude.{◌≡◌, ◌⊎◌, ◌≤◌, ℕ, List, ◌∷◌, [], true, length, Option, Some, None, option_map}
+-- The files of a folder in which a world is to be made: those that are there, and
+-- those that are made.
+use Rattle.std.specs.Prelude.{◌≡◌, ◌⊎◌, ◌≤◌, ℕ, List, ◌∷◌, [], true, length, Option, Some, None}
+use Rattle.std.specs.Prelude.{option_map}
 use Rattle.std.specs.Path.{path_buf_bytes, path_join}
 use Rattle.world_actions.specs.declared.refusal.Refusal.TheVariants.{NoMemory, Device, NotEmpty}
 use Rattle.file_format.specs.Gate.{HasOpenGate, HasClosedGate}
@@ -32,7 +34,8 @@ IsOccupied (Occupied file) = Unit {0}
 IsOccupied (Fault NotEmpty) = Unit {0}
 IsOccupied other = ⊥
 
--- the gate is open, and the file has room for a header of so many bytes: it may hold an image or a segment
+-- the gate is open, and the file has room for a header of so many bytes: it may hold an
+-- image or a segment
 abbrev pub IsOpenFile : (header : ℕ) → List ℕ → Type 0
 IsOpenFile header bytes = (header ≤ length bytes) × HasOpenGate bytes
 
@@ -53,19 +56,26 @@ module _ {D : Type 0} (file : D → List ℕ) where
   abbrev pub IsFirstThere : FourFiles (Option D) → (name : List ℕ) → Type 0
   IsFirstThere present name =
       ((name ≡ IMAGE_A.now) × IsOpenThere IMAGE_HEAD present.image_a)
-      ⊎ (((name ≡ IMAGE_B.now) × ¬ IsOpenThere IMAGE_HEAD present.image_a × IsOpenThere IMAGE_HEAD present.image_b)
-      ⊎ (((name ≡ LOG_A.now) × ¬ IsOpenThere IMAGE_HEAD present.image_a × ¬ IsOpenThere IMAGE_HEAD present.image_b × IsOpenThere SEGMENT_HEAD present.log_a)
-      ⊎ ((name ≡ LOG_B.now) × ¬ IsOpenThere IMAGE_HEAD present.image_a × ¬ IsOpenThere IMAGE_HEAD present.image_b
+      ⊎ (((name ≡ IMAGE_B.now) × ¬ IsOpenThere IMAGE_HEAD present.image_a
+      × IsOpenThere IMAGE_HEAD present.image_b)
+      ⊎ (((name ≡ LOG_A.now) × ¬ IsOpenThere IMAGE_HEAD present.image_a
+      × ¬ IsOpenThere IMAGE_HEAD present.image_b × IsOpenThere SEGMENT_HEAD present.log_a)
+      ⊎ ((name ≡ LOG_B.now) × ¬ IsOpenThere IMAGE_HEAD present.image_a
+      × ¬ IsOpenThere IMAGE_HEAD present.image_b
       × ¬ IsOpenThere SEGMENT_HEAD present.log_a × IsOpenThere SEGMENT_HEAD present.log_b)))
 
-  -- the ending says why no world is made in a folder: it names the first file that is there and open, or no file
+  -- the ending says why no world is made in a folder: it names the first file that is there and
+  -- open, or no file
   abbrev pub ReportsOpen : (folder : List ℕ) → FourFiles (Option D) → Ending → Type 0
-  ReportsOpen folder present (Occupied reported) = (name : List ℕ) × (path_buf_bytes reported.path ≡ path_join folder name) × IsFirstThere present name
+  ReportsOpen folder present (Occupied reported) =
+      (name : List ℕ) × (path_buf_bytes reported.path ≡ path_join folder name)
+      × IsFirstThere present name
   ReportsOpen folder present (Fault refusal) = (refusal ≡ NoMemory) ⊎ (refusal ≡ Device)
   ReportsOpen folder present other = ⊥
 
 -- a file that is there is only read; none appears
-abbrev pub KeepsThere : {S : Type 0} → (S → List ℕ) → (S → List ℕ → Type 0) → Option S → Option S → Type 0
+abbrev pub KeepsThere : {S : Type 0} → (S → List ℕ) → (S → List ℕ → Type 0)
+    → Option S → Option S → Type 0
 KeepsThere content may_leave None new = new ≡ None
 KeepsThere content may_leave (Some old) None = ⊥
 KeepsThere content may_leave (Some old) (Some new) = KeepsFile content may_leave old new
@@ -73,9 +83,12 @@ KeepsThere content may_leave (Some old) (Some new) = KeepsFile content may_leave
 -- ---- the history of a folder
 
 -- Those files of four that are there are different ones, and were opened to be written.
-pub record AreFound {D : Type 0} (identity : D → Identity) (files : FourFiles (Option D)) (before after : List Act) : Type 0 where
+pub record AreFound {D : Type 0} (identity : D → Identity) (files : FourFiles (Option D))
+    (before after : List Act) : Type 0 where
   pub looked_for : AreLookedFor identity files before after
-  pub apart : AreApart (option_map identity files.image_a ∷ option_map identity files.image_b ∷ option_map identity files.log_a ∷ option_map identity files.log_b ∷ [])
+  pub apart : AreApart
+      (option_map identity files.image_a ∷ option_map identity files.image_b
+      ∷ option_map identity files.log_a ∷ option_map identity files.log_b ∷ [])
 
 module _ {D : Type 0} (content : D → List ℕ) (leaves : D → List ℕ → Type 0) where
   -- nothing of a file that is there is unsynced
@@ -93,10 +106,12 @@ module _ {D : Type 0} (content : D → List ℕ) (leaves : D → List ℕ → Ty
   abbrev pub IsReady : (file : WorldFile) → Option D → D → (before after : List Act) → Type 0
   IsReady file (Some there) disk before after = (disk ≡ there) × (after ≡ before)
   IsReady file None disk before after =
-      (entry : Entry) × (after ≡ with_lock file entry (Made file entry ∷ before)) × HasClosedGate (content disk) × Only (content disk) (leaves disk)
+      (entry : Entry) × (after ≡ with_lock file entry (Made file entry ∷ before))
+      × HasClosedGate (content disk) × Only (content disk) (leaves disk)
 
   -- each file of four is the one that was there, or was made under its own name
-  pub record AreReady (there : FourFiles (Option D)) (files : FourFiles D) (before after : List Act) : Type 0 where
+  pub record AreReady (there : FourFiles (Option D)) (files : FourFiles D)
+      (before after : List Act) : Type 0 where
     pub with_image_a : List Act
     pub with_image_b : List Act
     pub with_log_a : List Act
@@ -106,13 +121,16 @@ module _ {D : Type 0} (content : D → List ℕ) (leaves : D → List ℕ → Ty
     pub log_b : IsReady LogB there.log_b files.log_b with_log_a after
 
   -- those files that were there were read, and then the others were made
-  pub record AreCompleted (there : FourFiles (Option D)) (files : FourFiles D) (before after : List Act) : Type 0 where
+  pub record AreCompleted (there : FourFiles (Option D)) (files : FourFiles D)
+      (before after : List Act) : Type 0 where
     pub read : FourFiles (Option D)
     pub kept : EachFile there read (KeepsThere content leaves)
     pub ready : AreReady read files before after
 
-  -- The four files of a folder in which a world is made, as it found or made them, and the names are durable. They are synced.
-  pub record AreTaken (identity : D → Identity) (files : FourFiles D) (before after : List Act) : Type 0 where
+  -- The four files of a folder in which a world is made, as it found or made them, and the names
+  -- are durable. They are synced.
+  pub record AreTaken (identity : D → Identity) (files : FourFiles D)
+      (before after : List Act) : Type 0 where
     pub there : FourFiles (Option D)
     pub looked : List Act
     pub made : List Act

@@ -15,7 +15,8 @@ use Rattle.world_folder.specs.declared.ending.Ending.TheVariants.{Fault, Unreada
 use Rattle.world_folder.specs.declared.unfinished.MadeFiles.{MadeFiles}
 use Rattle.world_folder.specs.declared.unfinished.Why.TheVariants as why
 
-module _ {D : Type 0} (identity : D → Identity) (content : D → List ℕ) (leaves : D → List ℕ → Type 0) where
+module _ {D : Type 0} (identity : D → Identity) (content : D → List ℕ)
+    (leaves : D → List ℕ → Type 0) where
   -- A world of zeros was made of the four files of a folder. It is sound at tick 0, and durable.
   pub record AreZeros (cells : ℕ) (made : FourFiles D) (before after : List Act) : Type 0 where
     pub files : FourFiles D
@@ -39,13 +40,14 @@ module _ {D : Type 0} (identity : D → Identity) (content : D → List ℕ) (le
     pub printed : after ≡ Printed (created_text cells) ∷ acts
 
   -- a world of these words was made, and then its number of cells was printed
-  pub record IsCreatedOfWords (words : List ℕ) (made : FourFiles D) (before after : List Act) : Type 0 where
+  pub record IsCreatedOfWords (words : List ℕ) (made : FourFiles D)
+      (before after : List Act) : Type 0 where
     pub acts : List Act
     pub is_words : AreWords words made before acts
     pub printed : after ≡ Printed (created_text (length words)) ∷ acts
 
-  -- No world was made, since a file that is there may hold one. The ending names the first such file. No file was made. Those that
-  -- are there were opened, and then only read.
+  -- No world was made, since a file that is there may hold one. The ending names the first such
+  -- file. No file was made. Those that are there were opened, and then only read.
   pub record IsRefused (folder : List ℕ) (ending : Ending) (before after : List Act) : Type 0 where
     pub there : FourFiles (Option D)
     pub left : FourFiles (Option D)
@@ -53,8 +55,11 @@ module _ {D : Type 0} (identity : D → Identity) (content : D → List ℕ) (le
     pub reported : ReportsOpen content folder there ending
     pub kept : EachFile there left (KeepsThere content leaves)
 
--- the ending of a command that made these files: it names them, if a file failed or memory was wanting
+-- the ending of a command that made these files: it names them, if a file failed or
+-- memory was wanting
 abbrev pub IsUnfinished : MadeFiles → Ending → Ending → Type 0
-IsUnfinished made (Unreadable file) result = result ≡ Unfinished (record { made = made; why = why.File file })
-IsUnfinished made (Fault NoMemory) result = result ≡ Unfinished (record { made = made; why = why.NoMemory })
+IsUnfinished made (Unreadable file) result =
+    result ≡ Unfinished (record { made = made; why = why.File file })
+IsUnfinished made (Fault NoMemory) result =
+    result ≡ Unfinished (record { made = made; why = why.NoMemory })
 IsUnfinished made ending result = result ≡ ending

@@ -10,8 +10,12 @@ use Rattle.world_actions.specs.declared.refusal.Refusal.TheVariants.{NoMemory, D
 use Rattle.disk_model.specs.declared.four_files.FourFiles.{FourFiles}
 use Rattle.world_folder.specs.declared.ending.Ending.{Ending}
 use Rattle.world_folder.specs.declared.ending.ServerEnding.{ServerEnding}
-use Rattle.world_folder.specs.declared.ending.ServerEnding.TheVariants.{NoPort, NoThread, ListenerFailed, ImagesDown, LogDown}
-use Rattle.world_folder.specs.declared.ending.Ending.TheVariants.{Ran, HelpPrinted, Mistaken, Fault, Unreadable, NoWorld, Unfinished, Unlisted, Server}
+use Rattle.world_folder.specs.declared.ending.ServerEnding.TheVariants.{NoPort, NoThread}
+use Rattle.world_folder.specs.declared.ending.ServerEnding.TheVariants.{ListenerFailed, ImagesDown}
+use Rattle.world_folder.specs.declared.ending.ServerEnding.TheVariants.{LogDown}
+use Rattle.world_folder.specs.declared.ending.Ending.TheVariants.{Ran, HelpPrinted, Mistaken, Fault}
+use Rattle.world_folder.specs.declared.ending.Ending.TheVariants.{Unreadable, NoWorld, Unfinished}
+use Rattle.world_folder.specs.declared.ending.Ending.TheVariants.{Unlisted, Server}
 use Rattle.world_folder.specs.Fault.{Files, AreRead, Explains, refusal_of}
 use Rattle.world_folder.specs.declared.words_text.BadWords.TheVariants as bad
 use Rattle.world_folder.specs.declared.unfinished.Why.{Why}
@@ -20,9 +24,12 @@ use Rattle.world_folder.specs.declared.world_file.Named.{Named}
 use Rattle.world_folder.specs.declared.world_file.WorldFile.{WorldFile}
 use Rattle.world_folder.specs.WorldFile.{name_of}
 
--- memory, or room on a disk, is wanting: it may be there at another try. A write that was cut short is of these.
+-- memory, or room on a disk, is wanting: it may be there at another try. A write that was cut
+-- short is of these.
 abbrev pub IsShortage : Error → Type 0
-IsShortage error = (error_kind error ≡ kind.OutOfMemory) ⊎ ((error_kind error ≡ kind.StorageFull) ⊎ ((error_kind error ≡ kind.QuotaExceeded)
+IsShortage error =
+    (error_kind error ≡ kind.OutOfMemory)
+    ⊎ ((error_kind error ≡ kind.StorageFull) ⊎ ((error_kind error ≡ kind.QuotaExceeded)
     ⊎ ((error_kind error ≡ kind.FileTooLarge) ⊎ (error_kind error ≡ kind.WriteZero))))
 
 -- the exit status of a fault by an error of the system
@@ -31,7 +38,8 @@ IsStatusOfError error status = (IsShortage error → status ≡ 13) × (¬ IsSho
 
 -- the exit status of a fault by a refusal
 abbrev pub IsStatusOfRefusal : Refusal → (status : ℕ) → Type 0
-IsStatusOfRefusal refusal status = (refusal ≡ NoMemory → status ≡ 13) × (refusal ≢ NoMemory → status ≡ 1)
+IsStatusOfRefusal refusal status =
+    (refusal ≡ NoMemory → status ≡ 13) × (refusal ≢ NoMemory → status ≡ 1)
 
 -- the exit status for the end of a server
 abbrev pub IsStatusOfServer : ServerEnding → (status : ℕ) → Type 0
@@ -60,7 +68,8 @@ IsStatusOf (Fault refusal) status = IsStatusOfRefusal refusal status
 IsStatusOf (Unreadable file) status = IsStatusOfError file.error status
 IsStatusOf (NoWorld fault) status = IsStatusOfRefusal (refusal_of fault) status
 IsStatusOf (Unfinished unfinished) status = IsStatusOfUnfinished unfinished.why status
-IsStatusOf (Unlisted file) status = (file.why ≡ bad.NoMemory → status ≡ 13) × (file.why ≢ bad.NoMemory → status ≡ 1)
+IsStatusOf (Unlisted file) status =
+    (file.why ≡ bad.NoMemory → status ≡ 13) × (file.why ≢ bad.NoMemory → status ≡ 1)
 IsStatusOf (Server ending) status = IsStatusOfServer ending status
 IsStatusOf other status = status ≡ 1
 
@@ -74,10 +83,12 @@ IsFault (Server ImagesDown) = ⊥
 IsFault (Server LogDown) = ⊥
 IsFault other = Unit {0}
 
--- the ending names this error and the file of this name in a folder, or there was no memory for its path
+-- the ending names this error and the file of this name in a folder, or there was no
+-- memory for its path
 abbrev pub ReportsOf : (folder name : List ℕ) → Error → Ending → Type 0
 ReportsOf folder name error (Fault refusal) = refusal ≡ NoMemory
-ReportsOf folder name error (Unreadable file) = (path_buf_bytes file.path ≡ path_join folder name) × (file.error ≡ error)
+ReportsOf folder name error (Unreadable file) =
+    (path_buf_bytes file.path ≡ path_join folder name) × (file.error ≡ error)
 ReportsOf folder name error other = ⊥
 
 -- the ending names this file of a folder, or there was no memory for its path
@@ -90,15 +101,19 @@ ReportsFailure folder None ending = ending ≡ Fault Device
 ReportsFailure folder (Some failed) ending = ReportsOf folder (name_of failed.0) failed.1 ending
 
 -- the ending names the first of four files in a folder that couldn't be read, with its error
-abbrev pub ReportsOfFirst : (folder : List ℕ) → FourFiles (Named (Result (Vec ℕ Global) Error)) → Ending → Type 0
+abbrev pub ReportsOfFirst : (folder : List ℕ)
+    → FourFiles (Named (Result (Vec ℕ Global) Error)) → Ending → Type 0
 ReportsOfFirst folder files ending =
-    MatchResult files.image_a.value (λ _. MatchResult files.image_b.value (λ _. MatchResult files.log_a.value (λ _. MatchResult files.log_b.value (λ _. ⊥)
+    MatchResult files.image_a.value (λ _. MatchResult files.image_b.value
+    (λ _. MatchResult files.log_a.value (λ _. MatchResult files.log_b.value (λ _. ⊥)
     (λ error. ReportsOf folder (name_of files.log_b.file) error ending))
     (λ error. ReportsOf folder (name_of files.log_a.file) error ending))
     (λ error. ReportsOf folder (name_of files.image_b.file) error ending))
     (λ error. ReportsOf folder (name_of files.image_a.file) error ending)
 
 -- the ending says why no world was found in the four files of a folder, which were read so
-abbrev pub ReportsWhy : (folder : List ℕ) → FourFiles (Named (Result (Vec ℕ Global) Error)) → Ending → Type 0
-ReportsWhy folder files (NoWorld fault) = (bytes : Files) × AreRead files bytes × Explains bytes fault
+abbrev pub ReportsWhy : (folder : List ℕ)
+    → FourFiles (Named (Result (Vec ℕ Global) Error)) → Ending → Type 0
+ReportsWhy folder files (NoWorld fault) =
+    (bytes : Files) × AreRead files bytes × Explains bytes fault
 ReportsWhy folder files ending = ReportsOfFirst folder files ending

@@ -12,7 +12,8 @@ use Rattle.disk_model.specs.declared.four_files.FourFiles.{FourFiles}
 use Rattle.disk_model.specs.FourFiles.{EachFile}
 use Rattle.world_folder.specs.declared.world_file.Named.{Named}
 use Rattle.world_folder.specs.declared.fault.Fault.{Fault}
-use Rattle.world_folder.specs.declared.fault.Fault.TheVariants.{NoMemory, NoImage, Images, Segments, Replay, Lost}
+use Rattle.world_folder.specs.declared.fault.Fault.TheVariants.{NoMemory, NoImage, Images, Segments}
+use Rattle.world_folder.specs.declared.fault.Fault.TheVariants.{Replay, Lost}
 use Rattle.world_folder.specs.declared.lost.Lost.TheVariants.{Image, Log, Gap}
 use Rattle.world_folder.specs.Lost.{lost_of}
 
@@ -26,7 +27,9 @@ AreRead given files = EachFile given files (λ named bytes. named.value ≡ Ok b
 
 -- recovery finds this in the four files
 abbrev pub Stands : Files → Recovered → Type 0
-Stands files found = Recovers files.image_a.items files.image_b.items files.log_a.items files.log_b.items (Ok (recovery_of_answer found))
+Stands files found =
+    Recovers files.image_a.items files.image_b.items files.log_a.items files.log_b.items
+    (Ok (recovery_of_answer found))
 
 -- what recovery answers
 abbrev pub refusal_of : Fault → Refusal
@@ -41,11 +44,15 @@ refusal_of (Lost (Gap slot)) = refusal.BadLog
 
 -- nothing was lost of four files in which recovery finds this
 abbrev pub IsWhole : Files → Recovered → Type 0
-IsWhole files found = lost_of found.tick found.from files.image_a.items files.image_b.items files.log_a.items files.log_b.items ≡ None
+IsWhole files found =
+    lost_of found.tick found.from files.image_a.items files.image_b.items
+    files.log_a.items files.log_b.items ≡ None
 
 -- recovery refuses the four files with this
 abbrev pub IsRefused : Files → Refusal → Type 0
-IsRefused files refused = Recovers files.image_a.items files.image_b.items files.log_a.items files.log_b.items (Err refused)
+IsRefused files refused =
+    Recovers files.image_a.items files.image_b.items files.log_a.items
+    files.log_b.items (Err refused)
 
 -- a fault is true of the four files; NoMemory says nothing of them
 abbrev pub Explains : Files → Fault → Type 0
@@ -66,4 +73,5 @@ Explains files Replay =
     × ¬ IsSegment files.log_b.items MalformedSegment
 Explains files (Lost lost) =
     (found : Recovered) × Stands files found
-    × (lost_of found.tick found.from files.image_a.items files.image_b.items files.log_a.items files.log_b.items ≡ Some lost)
+    × (lost_of found.tick found.from files.image_a.items files.image_b.items files.log_a.items
+    files.log_b.items ≡ Some lost)

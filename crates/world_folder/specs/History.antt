@@ -1,4 +1,5 @@
--- The calls that a program made in a folder, and the lines that it printed: its history, the latest one first.
+-- The calls that a program made in a folder, and the lines that it printed: its history, the
+-- latest one first.
 use Rattle.std.specs.Prelude.{◌≡◌, ℕ, List, ◌∷◌, Option, Some, None}
 use Rattle.world_folder.specs.declared.entry.Entry.{Entry}
 use Rattle.world_folder.specs.declared.locks.LockState.{LockState}

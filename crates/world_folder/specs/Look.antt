@@ -1,5 +1,6 @@
 -- The findings in the heads of four files.
-use Rattle.std.specs.Prelude.{ℕ, List, ◌&&◌, ◌==◌, nat_le, nat_lt, length, get_or, drop, Option, Some, None, if◌then◌else◌}
+use Rattle.std.specs.Prelude.{ℕ, List, ◌&&◌, ◌==◌, nat_le, nat_lt, length, get_or, drop, Option}
+use Rattle.std.specs.Prelude.{Some, None, if◌then◌else◌}
 use Rattle.file_format.specs.declared.slot.Slot.{Slot}
 use Rattle.file_format.specs.declared.slot.Slot.TheVariants.{A, B}
 use Rattle.file_format.specs.declared.gate.TheConstants.{OPEN_GATE}
@@ -16,7 +17,8 @@ opened_tick bytes = if is_open bytes then Some (tick_in bytes) else None
 -- the base of a segment with the mark of its format, if it is open
 abbrev pub opened_base : List ℕ → Option ℕ
 opened_base bytes =
-    if nat_le HEADER_BYTES (length bytes) && (get_or bytes 0 0 == OPEN_GATE) then Some (number_of 8 (drop MARK_PLACE bytes)) else None
+    if nat_le HEADER_BYTES (length bytes) && (get_or bytes 0 0 == OPEN_GATE)
+    then Some (number_of 8 (drop MARK_PLACE bytes)) else None
 
 -- the greater tick, and the file that has it, image.a if both are alike
 abbrev pub newest_tick : Option ℕ → Option ℕ → Option (Slot × ℕ)

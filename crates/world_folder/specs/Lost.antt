@@ -1,5 +1,6 @@
 -- Files of which one was lost, so that ticks that were answered are in none of them.
-use Rattle.std.specs.Prelude.{◌≡◌, ℕ, List, [], ◌∷◌, Bool, false, ◌&&◌, ◌==◌, nat_le, nat_lt, length, take, get_or, Option, Some, None, if◌then◌else◌}
+use Rattle.std.specs.Prelude.{◌≡◌, ℕ, List, [], ◌∷◌, Bool, false, ◌&&◌, ◌==◌, nat_le, nat_lt}
+use Rattle.std.specs.Prelude.{length, take, get_or, Option, Some, None, if◌then◌else◌}
 use Rattle.file_format.specs.declared.gate.TheConstants.{OPEN_GATE}
 use Rattle.file_format.specs.declared.slot.Slot.{Slot}
 use Rattle.file_format.specs.declared.slot.Slot.TheVariants.{A, B}
@@ -22,7 +23,9 @@ is_above tick (Some (format, base)) = nat_lt tick base
 
 -- a segment is open, and its base is above this tick
 abbrev pub begins_after : (tick : ℕ) → List ℕ → Bool
-begins_after tick log = nat_le SEGMENT_HEAD (length log) && (get_or log 0 0 == OPEN_GATE) && is_above tick (marked_in log)
+begins_after tick log =
+    nat_le SEGMENT_HEAD (length log) && (get_or log 0 0 == OPEN_GATE)
+    && is_above tick (marked_in log)
 
 -- a log that is empty although a tick above 0 is recovered, or that begins after the recovered tick
 abbrev pub lost_log : Slot → (tick : ℕ) → List ℕ → Option Lost
@@ -43,7 +46,8 @@ lost_of tick from image_a image_b log_a log_b =
 -- nothing was lost of these files, by their heads
 abbrev pub NothingLost : {D : Type 0} → (file : D → List ℕ) → (tick from : ℕ) → FourFiles D → Type 0
 NothingLost file tick from files =
-    lost_of tick from (take SEGMENT_HEAD (file files.image_a)) (take SEGMENT_HEAD (file files.image_b))
+    lost_of tick from (take SEGMENT_HEAD (file files.image_a))
+    (take SEGMENT_HEAD (file files.image_b))
     (take SEGMENT_HEAD (file files.log_a)) (take SEGMENT_HEAD (file files.log_b)) ≡ None
 
 -- ---- files that a crash may leave, and a loss too
@@ -54,11 +58,14 @@ first_empty [] log_b = Some A
 first_empty (gate ∷ rest) [] = Some B
 first_empty (gate ∷ rest) (other ∷ more) = None
 
--- An empty log of a world that is recovered at tick 0. A start that a crash cut off leaves it. So does the loss of a log that
--- had the world's first ticks.
+-- An empty log of a world that is recovered at tick 0. A start that a crash cut off leaves it. So
+-- does the loss of a log that had the world's first ticks.
 abbrev pub doubtful_log : (tick : ℕ) → (log_a log_b : List ℕ) → Option Slot
 doubtful_log tick log_a log_b = if nat_lt 0 tick then None else first_empty log_a log_b
 
 -- the same by the heads of the files
-abbrev pub DoubtfulIn : {D : Type 0} → (file : D → List ℕ) → (tick : ℕ) → FourFiles D → Option Slot → Type 0
-DoubtfulIn file tick files found = found ≡ doubtful_log tick (take SEGMENT_HEAD (file files.log_a)) (take SEGMENT_HEAD (file files.log_b))
+abbrev pub DoubtfulIn : {D : Type 0} → (file : D → List ℕ) → (tick : ℕ)
+    → FourFiles D → Option Slot → Type 0
+DoubtfulIn file tick files found =
+    found ≡ doubtful_log tick (take SEGMENT_HEAD (file files.log_a))
+    (take SEGMENT_HEAD (file files.log_b))

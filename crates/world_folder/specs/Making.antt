@@ -1,7 +1,8 @@
 -- The results of making a world in a folder.
 use Rattle.std.specs.Prelude.{◌≡◌, ◌≢◌, ◌⊎◌, ℕ, Bool, List, [], Ok, Err, replicate}
 use Rattle.std.specs.Path.{path_buf_bytes, path_join}
-use Rattle.world_actions.specs.declared.refusal.Refusal.TheVariants.{NoMemory, Device, NotEmpty, NoImage}
+use Rattle.world_actions.specs.declared.refusal.Refusal.TheVariants.{NoMemory, Device, NotEmpty}
+use Rattle.world_actions.specs.declared.refusal.Refusal.TheVariants.{NoImage}
 use Rattle.file_format.specs.declared.slot.Slot.TheVariants.{A}
 use Rattle.disk_model.specs.Disk.{Call, Only}
 use Rattle.disk_model.specs.FourFiles.{EachFile, KeepsFile}
@@ -24,29 +25,39 @@ abbrev pub IsFirstOpen : (image_a image_b log_a log_b name : List ℕ) → Type 
 IsFirstOpen image_a image_b log_a log_b name =
     ((name ≡ IMAGE_A.now) × (image_of image_a ≢ Closed))
     ⊎ (((name ≡ IMAGE_B.now) × (image_of image_a ≡ Closed) × (image_of image_b ≢ Closed))
-    ⊎ (((name ≡ LOG_A.now) × (image_of image_a ≡ Closed) × (image_of image_b ≡ Closed) × ¬ IsSegment log_a ClosedSegment)
-    ⊎ ((name ≡ LOG_B.now) × (image_of image_a ≡ Closed) × (image_of image_b ≡ Closed) × IsSegment log_a ClosedSegment × ¬ IsSegment log_b ClosedSegment)))
+    ⊎ (((name ≡ LOG_A.now) × (image_of image_a ≡ Closed) × (image_of image_b ≡ Closed)
+    × ¬ IsSegment log_a ClosedSegment)
+    ⊎ ((name ≡ LOG_B.now) × (image_of image_a ≡ Closed) × (image_of image_b ≡ Closed)
+    × IsSegment log_a ClosedSegment × ¬ IsSegment log_b ClosedSegment)))
 
 module _ {D : Type 0} (file : D → List ℕ) where
-  -- the ending says why no world was made of the four files of a folder: it names the first one that isn't closed, or no
-  -- file
+  -- the ending says why no world was made of the four files of a folder: it names the first one
+  -- that isn't closed, or no file
   abbrev pub ReportsUnmade : (folder : List ℕ) → FourFiles D → Ending → Type 0
   ReportsUnmade folder files (Occupied reported) =
       (name : List ℕ) × (path_buf_bytes reported.path ≡ path_join folder name)
-      × IsFirstOpen (file files.image_a) (file files.image_b) (file files.log_a) (file files.log_b) name
-  ReportsUnmade folder files (Fault refusal) = (refusal ≡ NoMemory) ⊎ ((refusal ≡ Device) ⊎ ((refusal ≡ NotEmpty) × ¬ FilesAreClosed file files))
+      × IsFirstOpen (file files.image_a) (file files.image_b)
+      (file files.log_a) (file files.log_b) name
+  ReportsUnmade folder files (Fault refusal) =
+      (refusal ≡ NoMemory)
+      ⊎ ((refusal ≡ Device) ⊎ ((refusal ≡ NotEmpty) × ¬ FilesAreClosed file files))
   ReportsUnmade folder files other = ⊥
 
 module _ {D : Type 0} (file : D → List ℕ) (leaves : D → List ℕ → Type 0) where
-  -- No world was made, and the program ends so. The files were only read, except if a device failed. If they held no world,
-  -- whatever a crash leaves of them is of no world yet, or of one of zeros at tick 0.
-  pub record IsUnmade (folder : List ℕ) (files : FourFiles D) (cells : ℕ) (ending : Ending) (left : FourFiles D) : Type 0 where
+  -- No world was made, and the program ends so. The files were only read, except if a device
+  -- failed. If they held no world, whatever a crash leaves of them is of no world yet, or of one of
+  -- zeros at tick 0.
+  pub record IsUnmade (folder : List ℕ) (files : FourFiles D) (cells : ℕ) (ending : Ending)
+      (left : FourFiles D) : Type 0 where
     pub reported : ReportsUnmade file folder files ending
     pub kept : ending ≢ Fault Device → EachFile files left (KeepsFile file leaves)
-    pub safe : AreSynced file leaves files → FilesAreClosed file files → AreFreshOrSound file leaves left (replicate cells 0)
+    pub safe : AreSynced file leaves files → FilesAreClosed file files
+        → AreFreshOrSound file leaves left (replicate cells 0)
 
--- the files beside image.a are asked for no byte after the greatest length of their format, and for nothing else
-pub record OthersOnlyAsked {D : Type 0} (called : D → Call → Bool → D → Type 0) (files left : FourFiles D) : Type 0 where
+-- the files beside image.a are asked for no byte after the greatest length of their format, and
+-- for nothing else
+pub record OthersOnlyAsked {D : Type 0} (called : D → Call → Bool → D → Type 0)
+    (files left : FourFiles D) : Type 0 where
   pub image_b : OnlyAsked called IMAGE_BYTES_MAX files.image_b left.image_b
   pub log_a : OnlyAsked called SEGMENT_BYTES_MAX files.log_a left.log_a
   pub log_b : OnlyAsked called SEGMENT_BYTES_MAX files.log_b left.log_b
@@ -56,8 +67,9 @@ abbrev pub recovery_of_words : List ℕ → Recovery
 recovery_of_words words = record { tick = 0; from = 0; slot = A; words = words }
 
 module _ {D : Type 0} (file : D → List ℕ) (leaves : D → List ℕ → Type 0) where
-  -- The files held no world, and recovery finds these words in them at tick 0. image.a has them, and is durable. The other
-  -- files were only read. If the files were synced, they are sound from these words, and synced again.
+  -- The files held no world, and recovery finds these words in them at tick 0. image.a has them,
+  -- and is durable. The other files were only read. If the files were synced, they are sound from
+  -- these words, and synced again.
   pub record HoldsWords (files : FourFiles D) (words : List ℕ) (made : FourFiles D) : Type 0 where
     pub closed : FilesAreClosed file files
     pub image : image_of (file made.image_a) ≡ Open 0 words
@@ -69,12 +81,17 @@ module _ {D : Type 0} (file : D → List ℕ) (leaves : D → List ℕ → Type 
     pub sound : AreSynced file leaves files → AreSound file leaves made words [] 0
     pub synced : AreSynced file leaves files → AreSynced file leaves made
 
-  -- No world was made, and the program ends so. The files were only read, except if a device failed. If they held no world,
-  -- a crash leaves none in them, or that of these words at tick 0. So they are those of a fresh world of these words.
-  pub record HoldsNoOther (folder : List ℕ) (files : FourFiles D) (words : List ℕ) (ending : Ending) (left : FourFiles D) : Type 0 where
+  -- No world was made, and the program ends so. The files were only read, except if a device
+  -- failed. If they held no world, a crash leaves none in them, or that of these words at tick 0.
+  -- So they are those of a fresh world of these words.
+  pub record HoldsNoOther (folder : List ℕ) (files : FourFiles D) (words : List ℕ) (ending : Ending)
+      (left : FourFiles D) : Type 0 where
     pub reported : ReportsUnmade file folder files ending
     pub kept : ending ≢ Fault Device → EachFile files left (KeepsFile file leaves)
     pub safe : AreSynced file leaves files → FilesAreClosed file files
-        → (a b la lb : List ℕ) → leaves left.image_a a → leaves left.image_b b → leaves left.log_a la → leaves left.log_b lb
+        → (a b la lb : List ℕ) → leaves left.image_a a → leaves left.image_b b
+        → leaves left.log_a la → leaves left.log_b lb
         → Recovers a b la lb (Err NoImage) ⊎ Recovers a b la lb (Ok (recovery_of_words words))
-    pub fresh : AreSynced file leaves files → FilesAreClosed file files → IsFresh (leaves left.image_a) (leaves left.image_b) (leaves left.log_a) (leaves left.log_b) words
+    pub fresh : AreSynced file leaves files → FilesAreClosed file files
+        → IsFresh (leaves left.image_a) (leaves left.image_b) (leaves left.log_a)
+        (leaves left.log_b) words

@@ -1,6 +1,7 @@
 -- The history of a folder in memory, by what it noted.
 use Rattle.std.specs.Prelude.{List, [], ◌∷◌, string_bytes}
-use Rattle.world_folder.specs.History.{Act, Looked, Opened, Made, Locked, Read, Measured, Asked, NamesSynced, OwnNameSynced, FoundEmpty, Printed, Warned}
+use Rattle.world_folder.specs.History.{Act, Looked, Opened, Made, Locked, Read, Measured, Asked}
+use Rattle.world_folder.specs.History.{NamesSynced, OwnNameSynced, FoundEmpty, Printed, Warned}
 use Rattle.world_folder.specs.declared.noted.Noted.{Noted}
 use Rattle.world_folder.specs.declared.noted.Noted.TheVariants as noted
 

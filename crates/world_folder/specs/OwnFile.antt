@@ -22,11 +22,14 @@ IsApart a b = Unit {0}
 
 -- no two of four are one file
 abbrev pub AreApart : List (Option Identity) → Type 0
-AreApart (a ∷ b ∷ c ∷ d ∷ []) = IsApart a b × IsApart a c × IsApart a d × IsApart b c × IsApart b d × IsApart c d
+AreApart (a ∷ b ∷ c ∷ d ∷ []) =
+    IsApart a b × IsApart a c × IsApart a d × IsApart b c × IsApart b d × IsApart c d
 AreApart other = ⊥
 
--- The regular file that stood under its name was opened to be written. It has no other name. It was locked, if it is image.a.
-pub record IsOnlyFile (file : WorldFile) (there : Entry) (identity : Identity) (before after : List Act) : Type 0 where
+-- The regular file that stood under its name was opened to be written. It has no other name. It was
+-- locked, if it is image.a.
+pub record IsOnlyFile (file : WorldFile) (there : Entry) (identity : Identity)
+    (before after : List Act) : Type 0 where
   pub opened : Entry
   pub acts : after ≡ with_lock file opened (Opened file opened ∷ before)
   pub regular : there.kind ≡ Regular
@@ -36,7 +39,8 @@ pub record IsOnlyFile (file : WorldFile) (there : Entry) (identity : Identity) (
 
 -- a file was looked for by its name, and then this one was opened
 abbrev pub IsOwn : (file : WorldFile) → Identity → (before after : List Act) → Type 0
-IsOwn file identity before after = (there : Entry) × IsOnlyFile file there identity (Looked file (Some there) ∷ before) after
+IsOwn file identity before after =
+    (there : Entry) × IsOnlyFile file there identity (Looked file (Some there) ∷ before) after
 
 module _ {D : Type 0} (identity : D → Identity) where
   -- the same of a file that may not be there
@@ -58,7 +62,9 @@ module _ {D : Type 0} (identity : D → Identity) where
   pub record AreHeld (files : FourFiles D) (before after : List Act) : Type 0 where
     pub opened : List Act
     pub own : AreOwn files before opened
-    pub apart : AreApart (Some (identity files.image_a) ∷ Some (identity files.image_b) ∷ Some (identity files.log_a) ∷ Some (identity files.log_b) ∷ [])
+    pub apart : AreApart
+        (Some (identity files.image_a) ∷ Some (identity files.image_b) ∷ Some (identity files.log_a)
+        ∷ Some (identity files.log_b) ∷ [])
     pub synced : after ≡ NamesSynced ∷ opened
 
   -- each file of four was looked for by its own name, image.a first

@@ -17,13 +17,18 @@ IsFileRead ImageB file bytes = IsImageRead file bytes
 IsFileRead LogA file bytes = IsSegmentRead file bytes
 IsFileRead LogB file bytes = IsSegmentRead file bytes
 
--- The file was opened by its own name, and these are its bytes. One that can't be read may not have been opened.
-abbrev pub IsReadIn : (file : WorldFile) → Result (Vec ℕ Global) Error → (before after : List Act) → Type 0
-IsReadIn file (Ok bytes) before after = (content : List ℕ) × (after ≡ Read file content ∷ before) × IsFileRead file content bytes.items
-IsReadIn file (Err error) before after = (after ≡ before) ⊎ ((content : List ℕ) × (after ≡ Read file content ∷ before))
+-- The file was opened by its own name, and these are its bytes. One that can't be read may not
+-- have been opened.
+abbrev pub IsReadIn : (file : WorldFile) → Result (Vec ℕ Global) Error
+    → (before after : List Act) → Type 0
+IsReadIn file (Ok bytes) before after =
+    (content : List ℕ) × (after ≡ Read file content ∷ before) × IsFileRead file content bytes.items
+IsReadIn file (Err error) before after =
+    (after ≡ before) ⊎ ((content : List ℕ) × (after ≡ Read file content ∷ before))
 
 -- each file of four was read by its own name
-pub record AreReadIn (files : FourFiles (Named (Result (Vec ℕ Global) Error))) (before after : List Act) : Type 0 where
+pub record AreReadIn (files : FourFiles (Named (Result (Vec ℕ Global) Error)))
+    (before after : List Act) : Type 0 where
   pub with_image_a : List Act
   pub with_image_b : List Act
   pub with_log_a : List Act

@@ -27,7 +27,8 @@ image_name B = IMAGE_B.now
 
 -- a recovered world, and the file of its image
 abbrev pub recovered_text : (tick from : ℕ) → Slot → List ℕ
-recovered_text tick from slot = codes "recovered " ++ world_text tick from ++ codes " in " ++ image_name slot
+recovered_text tick from slot =
+    codes "recovered " ++ world_text tick from ++ codes " in " ++ image_name slot
 
 -- a world that was made
 abbrev pub created_text : (cells : ℕ) → List ℕ
@@ -40,7 +41,8 @@ recovered_line tick from = codes "recovered " ++ world_text tick from
 
 -- the names of the damaged files of two
 abbrev pub damaged_names : Damaged → (a b : List ℕ) → List ℕ
-damaged_names damaged a b = if damaged.a then (if damaged.b then a ++ codes " and " ++ b else a) else b
+damaged_names damaged a b =
+    if damaged.a then (if damaged.b then a ++ codes " and " ++ b else a) else b
 
 abbrev pub log_name : Slot → List ℕ
 log_name A = LOG_A.now
@@ -63,7 +65,8 @@ reason_text (fault.Lost lost) = lost_text lost
 
 -- an empty log of a world at tick 0
 abbrev pub doubtful_text : Slot → List ℕ
-doubtful_text slot = log_name slot ++ codes " is empty: if this world was played, its ticks are lost"
+doubtful_text slot =
+    log_name slot ++ codes " is empty: if this world was played, its ticks are lost"
 
 abbrev pub doubtful_line : Slot → List ℕ
 doubtful_line slot = codes "worldd: " ++ doubtful_text slot
@@ -77,7 +80,8 @@ fault_text refusal = codes "fault " ++ decimal (code_of refusal)
 
 abbrev pub bad_line_text : (line : ℕ) → List ℕ
 bad_line_text line =
-    codes "line " ++ decimal line ++ codes " has something other than numbers from 0 to " ++ decimal LIMIT ++ codes " with one space between them"
+    codes "line " ++ decimal line ++ codes " has something other than numbers from 0 to "
+    ++ decimal LIMIT ++ codes " with one space between them"
 
 abbrev pub bad_words_text : BadWords → List ℕ
 bad_words_text bad.NoMemory = codes "there is no memory for its words"
@@ -100,5 +104,6 @@ filled_text path = path ++ codes ": the folder isn't empty: choose an empty one"
 abbrev pub shown_text : (character : ℕ) → List ℕ
 shown_text character =
     if is_control character
-    then codes "\\x" ++ (encode_utf8 (digit_char (character / 16)) ++ encode_utf8 (digit_char (character % 16)))
+    then codes "\\x"
+    ++ (encode_utf8 (digit_char (character / 16)) ++ encode_utf8 (digit_char (character % 16)))
     else encode_utf8 character

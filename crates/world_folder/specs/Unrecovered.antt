@@ -14,10 +14,12 @@ module _ {D : Type 0} (file : D → List ℕ) where
   pub record HasLost (files : FourFiles D) (lost : Lost) : Type 0 where
     pub recovery : Recovery
     pub recovers : RecoversFiles file files recovery
-    pub found : lost_of recovery.tick recovery.from (take SEGMENT_HEAD (file files.image_a)) (take SEGMENT_HEAD (file files.image_b))
+    pub found : lost_of recovery.tick recovery.from (take SEGMENT_HEAD (file files.image_a))
+        (take SEGMENT_HEAD (file files.image_b))
         (take SEGMENT_HEAD (file files.log_a)) (take SEGMENT_HEAD (file files.log_b)) ≡ Some lost
 
-  -- recovery refuses the files, memory ran out, or a device failed; or a world is recovered, and a file of it was lost
+  -- recovery refuses the files, memory ran out, or a device failed; or a world is recovered, and a
+  -- file of it was lost
   abbrev pub IsUnrecovered : (honest : Bool) → FourFiles D → NotRecovered → Type 0
   IsUnrecovered honest files (why.Refused refusal) = IsRefused file honest files refusal
   IsUnrecovered honest files (why.Lost lost) = IsTrue honest → HasLost files lost

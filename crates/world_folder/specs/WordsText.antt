@@ -1,5 +1,6 @@
 -- A text that lists the words of a world.
-use Rattle.std.specs.Prelude.{◌≡◌, ◌≢◌, ◌⊎◌, ℕ, ◌+◌, ◌==◌, if◌then◌else◌, List, [], ◌∷◌, ◌++◌, decimal, length}
+use Rattle.std.specs.Prelude.{◌≡◌, ◌≢◌, ◌⊎◌, ℕ, ◌+◌, ◌==◌, if◌then◌else◌, List, [], ◌∷◌, ◌++◌}
+use Rattle.std.specs.Prelude.{decimal, length}
 use Rattle.world_actions.specs.declared.world.TheConstants.{CELLS}
 use Rattle.world_actions.specs.World.{IsWord}
 
@@ -11,7 +12,8 @@ IsSeparator byte = (byte ≡ 32) ⊎ (byte ≡ 10)
 abbrev pub ListsEach : (words text : List ℕ) → Type 0
 ListsEach [] text = text ≡ []
 ListsEach (word ∷ words) text =
-    (separator : ℕ) × (rest : List ℕ) × IsSeparator separator × (text ≡ decimal word ++ separator ∷ rest) × ListsEach words rest
+    (separator : ℕ) × (rest : List ℕ) × IsSeparator separator
+    × (text ≡ decimal word ++ separator ∷ rest) × ListsEach words rest
 
 -- the same, or with nothing after the last word
 abbrev pub Lists : (words text : List ℕ) → Type 0
@@ -32,7 +34,8 @@ abbrev pub EndsPart : List ℕ → Type 0
 EndsPart [] = Unit {0}
 EndsPart (byte ∷ bytes) = IsSeparator byte
 
--- words are listed, and then comes a part in this line, up to a separator or the end, that is no word
+-- words are listed, and then comes a part in this line, up to a separator or the end,
+-- that is no word
 pub record IsUnreadAt (line : ℕ) (text : List ℕ) : Type 0 where
   pub words : List ℕ
   pub front : List ℕ

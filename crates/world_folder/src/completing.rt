@@ -1,9 +1,12 @@
 //! The four files in which a world is to be made, of those that are there and of new ones.
-ghost use Rattle.std.specs.Prelude.{◌≡◌, ◌↔◌, ◌≤◌, IsTrue, Ok, None, IfOk, IfErr, OnOk, IfSome, IfNone};
+ghost use Rattle.std.specs.Prelude.{◌≡◌, ◌↔◌, ◌≤◌, IsTrue, Ok, None, IfOk, IfErr, OnOk, IfSome};
+ghost use Rattle.std.specs.Prelude.{IfNone};
 ghost use Rattle.disk_model.specs.Disk.{Only};
 ghost use Rattle.disk_model.specs.FourFiles.{EachFile, KeepsFile};
 ghost use Rattle.file_format.specs.Gate.{HasClosedGate};
-ghost use Rattle.world_folder.specs.Completing.{IsOccupied, IsOpenFile, IsOpenThere, IsFirstThere, NoneIsOpen, ReportsOpen, KeepsThere, IsReady, AreReady, AreCompleted, with_made};
+ghost use Rattle.world_folder.specs.Completing.{IsOccupied, IsOpenFile, IsOpenThere, IsFirstThere};
+ghost use Rattle.world_folder.specs.Completing.{NoneIsOpen, ReportsOpen, KeepsThere, IsReady};
+ghost use Rattle.world_folder.specs.Completing.{AreReady, AreCompleted, with_made};
 ghost use Rattle.world_folder.specs.Ending.{IsFault, NamesFile};
 ghost use Rattle.world_folder.specs.History.{with_lock};
 
@@ -21,15 +24,16 @@ use std::alloc::Global;
 use std::io;
 use world_actions::Refusal;
 
-// Looks at the files of a folder that are there. If one is open, no world is made there, and the first such file is named.
-// An open file may hold an image or ticks, whatever the others are.
+// Looks at the files of a folder that are there. If one is open, no world is made there, and the
+// first such file is named. An open file may hold an image or ticks, whatever the others are.
 fn look_for_world<D: Disk>(
     alloc: Global,
     folder: &str,
     present: &mut FourFiles<Option<D>>,
 ) -> Result<(), Ending>
     ensures none { IsTrue D.honest → OnOk result (NoneIsOpen D.content present.old) }
-    ensures reported { IsTrue D.honest → IfErr result (ReportsOpen D.content folder.now present.old) }
+    ensures reported { IsTrue D.honest
+        → IfErr result (ReportsOpen D.content folder.now present.old) }
     ensures kept { IsTrue D.honest
         → EachFile present.old present.new (KeepsThere D.content D.may_leave) }
     ensures fault { IfErr result IsFault }
@@ -46,7 +50,8 @@ fn look_for_world<D: Disk>(
 
 // The name of the first file that is there and open.
 fn first_open<D: Disk>(present: &mut FourFiles<Option<D>>) -> Result<Option<&'static str>, Refusal>
-    ensures none { IsTrue D.honest → IfOk result (λ found. IfNone found (NoneIsOpen D.content present.old)) }
+    ensures none { IsTrue D.honest
+        → IfOk result (λ found. IfNone found (NoneIsOpen D.content present.old)) }
     ensures first { IsTrue D.honest → IfOk result (λ found.
         IfSome found (λ name. IsFirstThere D.content present.old name.now)) }
     ensures kept { IsTrue D.honest
@@ -106,7 +111,8 @@ fn make_absent<F: Folder>(
     made: &mut MadeFiles,
 ) -> Result<FourFiles<F::File>, Ending>
     ensures ready { IsTrue F.honest → IsTrue F.File.honest → IfOk result (λ files.
-        AreReady F.File.content F.File.may_leave present.old files (F.history folder.old) (F.history folder.new)) }
+        AreReady F.File.content F.File.may_leave present.old files (F.history folder.old)
+        (F.history folder.new)) }
     ensures other { IfErr result (λ ending. ¬ IsOccupied ending) }
     ensures fault { IfErr result IsFault }
 {
@@ -155,7 +161,8 @@ fn there_or_made<F: Folder>(
     made: &mut MadeFiles,
 ) -> Result<F::File, Ending>
     ensures ready { IsTrue F.honest → IsTrue F.File.honest → IfOk result (λ disk.
-        IsReady F.File.content F.File.may_leave file present.old disk (F.history folder.old) (F.history folder.new)) }
+        IsReady F.File.content F.File.may_leave file present.old disk (F.history folder.old)
+        (F.history folder.new)) }
     ensures there { IfSome present.old (λ disk. result ≡ Ok disk) }
     ensures none_made { IfSome present.old (λ _. made.new ≡ made.old) }
     ensures made { IfNone present.old (OnOk result (made.new ≡ with_made file made.old)) }
@@ -168,8 +175,8 @@ fn there_or_made<F: Folder>(
     }
 }
 
-// Makes a file that only its owner may read and write, and locks it if it is image.a. It is a closed gate: an empty file of a
-// world that was made is one that was lost.
+// Makes a file that only its owner may read and write, and locks it if it is image.a. It is a
+// closed gate: an empty file of a world that was made is one that was lost.
 fn make_closed<F: Folder>(
     alloc: Global,
     folder: &mut F,
@@ -178,7 +185,8 @@ fn make_closed<F: Folder>(
     made: &mut MadeFiles,
 ) -> Result<F::File, Ending>
     ensures acts { IsTrue F.honest → IsTrue F.File.honest → IfOk result (λ disk.
-        IsReady F.File.content F.File.may_leave file None disk (F.history folder.old) (F.history folder.new)) }
+        IsReady F.File.content F.File.may_leave file None disk (F.history folder.old)
+        (F.history folder.new)) }
     ensures made { OnOk result (made.new ≡ with_made file made.old) }
     ensures other { IfErr result (λ ending. ¬ IsOccupied ending) }
     ensures named { IfErr result (NamesFile path.now file) }
@@ -193,9 +201,13 @@ fn make_closed<F: Folder>(
 
 // Takes a new file, of which it makes a closed gate.
 fn take_closed<F: Folder>(folder: &mut F, file: WorldFile, handle: F::Handle) -> io::Result<F::File>
-    ensures locked { IsTrue F.honest → OnOk result (F.history folder.new ≡ with_lock file (F.entry_of handle) (F.history folder.old)) }
-    ensures closed { IsTrue F.File.honest → IfOk result (λ disk. HasClosedGate (F.File.content disk)) }
-    ensures synced { IsTrue F.File.honest → IfOk result (λ disk. Only (F.File.content disk) (F.File.may_leave disk)) }
+    ensures locked { IsTrue F.honest
+        → OnOk result
+        (F.history folder.new ≡ with_lock file (F.entry_of handle) (F.history folder.old)) }
+    ensures closed { IsTrue F.File.honest
+        → IfOk result (λ disk. HasClosedGate (F.File.content disk)) }
+    ensures synced { IsTrue F.File.honest
+        → IfOk result (λ disk. Only (F.File.content disk) (F.File.may_leave disk)) }
 {
     let mut disk = take_own(folder, file, handle)?;
     let closed = write_closed_gate(&mut disk);
@@ -206,15 +218,16 @@ fn take_closed<F: Folder>(folder: &mut F, file: WorldFile, handle: F::Handle) ->
 // Writes a closed gate over the first byte of a file, and makes it durable.
 fn write_closed_gate<D: Disk>(disk: &mut D) -> Result<(), Refusal>
     ensures closed { IsTrue D.honest → OnOk result (HasClosedGate (D.content disk.new)) }
-    ensures synced { IsTrue D.honest → OnOk result (Only (D.content disk.new) (D.may_leave disk.new)) }
+    ensures synced { IsTrue D.honest
+        → OnOk result (Only (D.content disk.new) (D.may_leave disk.new)) }
     ensures refused { IfErr result (λ refusal. refusal ≡ Refusal.Device) }
 {
     disk.write_at(0, &[CLOSED_GATE])?;
     disk.sync()
 }
 
-/// The four files in which a world is to be made: those that are there, and new ones. If one that is there is open, no file
-/// is made, and none is changed.
+/// The four files in which a world is to be made: those that are there, and new ones. If one that
+/// is there is open, no file is made, and none is changed.
 pub fn complete<F: Folder>(
     alloc: Global,
     folder: &mut F,
@@ -223,10 +236,12 @@ pub fn complete<F: Folder>(
     made: &mut MadeFiles,
 ) -> Result<FourFiles<F::File>, Ending>
     ensures completed { IsTrue F.honest → IsTrue F.File.honest → IfOk result (λ files.
-        AreCompleted F.File.content F.File.may_leave present.old files (F.history folder.old) (F.history folder.new)) }
+        AreCompleted F.File.content F.File.may_leave present.old files (F.history folder.old)
+        (F.history folder.new)) }
     ensures none_made { IfErr result (λ ending. IsOccupied ending → made.new ≡ made.old) }
     ensures no_act { IfErr result (λ ending. IsOccupied ending → folder.new ≡ folder.old) }
-    ensures none_open { IsTrue F.File.honest → IfOk result (λ _. NoneIsOpen F.File.content present.old) }
+    ensures none_open { IsTrue F.File.honest
+        → IfOk result (λ _. NoneIsOpen F.File.content present.old) }
     ensures reported { IsTrue F.File.honest → IfErr result (λ ending. IsOccupied ending
         → ReportsOpen F.File.content path.now present.old ending) }
     ensures kept { IsTrue F.File.honest → IfErr result (λ ending. IsOccupied ending

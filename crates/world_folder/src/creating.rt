@@ -3,7 +3,8 @@ ghost use Rattle.std.specs.Io.KnownBytes.{Consumes, IsAtEnd};
 ghost use Rattle.world_actions.specs.declared.world.TheConstants.{CELLS};
 ghost use Rattle.world_actions.specs.World.{IsWorld};
 ghost use Rattle.world_folder.specs.Completing.{AreTaken, IsOccupied};
-ghost use Rattle.world_folder.specs.Creating.{AreZeros, AreWords, IsCreated, IsCreatedOfWords, IsRefused, IsUnfinished};
+ghost use Rattle.world_folder.specs.Creating.{AreZeros, AreWords, IsCreated, IsCreatedOfWords};
+ghost use Rattle.world_folder.specs.Creating.{IsRefused, IsUnfinished};
 ghost use Rattle.world_folder.specs.Ending.{IsFault, ReportsFailure};
 ghost use Rattle.world_folder.specs.Failing.{failure_there, first_failure};
 ghost use Rattle.world_folder.specs.History.{Printed};
@@ -43,8 +44,9 @@ pub fn create<R: Files<File = File> + Clock + Print + Eprint + AllocGlobal>(
     }
 }
 
-/// Makes the files of a world of zeros at tick 0 in the folder at this path, and prints how many cells it has. If one of the
-/// files isn't closed, it makes no file and writes none. After another failure the files that it made stay, and are named.
+/// Makes the files of a world of zeros at tick 0 in the folder at this path, and prints how many
+/// cells it has. If one of the files isn't closed, it makes no file and writes none. After another
+/// failure the files that it made stay, and are named.
 pub fn create_zeros<F: Folder>(
     alloc: Global,
     folder: &mut F,
@@ -53,10 +55,13 @@ pub fn create_zeros<F: Folder>(
 ) -> Result<(FourFiles<F::File>, Made), Ending>
     requires { (1 ≤ cells) × (cells ≤ CELLS) }
     ensures created { IsTrue F.honest → IsTrue F.File.honest → IfOk result (λ created.
-        IsCreated F.identity F.File.content F.File.may_leave cells created.0 (F.history folder.old) (F.history folder.new)) }
+        IsCreated F.identity F.File.content F.File.may_leave cells created.0 (F.history folder.old)
+        (F.history folder.new)) }
     ensures cells { IfOk result (λ created. created.1.cells ≡ cells) }
-    ensures refused { IsTrue F.honest → IsTrue F.File.honest → IfErr result (λ ending. IsOccupied ending
-        → IsRefused F.identity F.File.content F.File.may_leave path.now ending (F.history folder.old) (F.history folder.new)) }
+    ensures refused { IsTrue F.honest → IsTrue F.File.honest
+        → IfErr result (λ ending. IsOccupied ending
+        → IsRefused F.identity F.File.content F.File.may_leave path.now ending
+        (F.history folder.old) (F.history folder.new)) }
     ensures fault { IfErr result IsFault }
 {
     let mut made = MadeFiles::none();
@@ -78,10 +83,13 @@ fn make_zeros<F: Folder>(
 ) -> Result<(FourFiles<F::File>, Made), Ending>
     requires { (1 ≤ cells) × (cells ≤ CELLS) }
     ensures zeros { IsTrue F.honest → IsTrue F.File.honest → IfOk result (λ made.
-        AreZeros F.identity F.File.content F.File.may_leave cells made.0 (F.history folder.old) (F.history folder.new)) }
+        AreZeros F.identity F.File.content F.File.may_leave cells made.0 (F.history folder.old)
+        (F.history folder.new)) }
     ensures cells { IfOk result (λ made. made.1.cells ≡ cells) }
-    ensures refused { IsTrue F.honest → IsTrue F.File.honest → IfErr result (λ ending. IsOccupied ending
-        → IsRefused F.identity F.File.content F.File.may_leave path.now ending (F.history folder.old) (F.history folder.new)) }
+    ensures refused { IsTrue F.honest → IsTrue F.File.honest
+        → IfErr result (λ ending. IsOccupied ending
+        → IsRefused F.identity F.File.content F.File.may_leave path.now ending
+        (F.history folder.old) (F.history folder.new)) }
     ensures fault { IfErr result IsFault }
 {
     let files = four_files(alloc, folder, path, made)?;
@@ -91,8 +99,9 @@ fn make_zeros<F: Folder>(
     }
 }
 
-/// Makes the files of a world of the words that a file lists, at tick 0, in a folder of the system, as `create_listed` does. A
-/// file that lists no words of a world is refused before anything is opened in the folder.
+/// Makes the files of a world of the words that a file lists, at tick 0, in a folder of the system,
+/// as `create_listed` does. A file that lists no words of a world is refused before anything is
+/// opened in the folder.
 pub fn create_of_words<R: Files<File = File> + Clock + Print + Eprint + AllocGlobal>(
     rt: &R,
     folder: &str,
@@ -108,7 +117,8 @@ pub fn create_of_words<R: Files<File = File> + Clock + Print + Eprint + AllocGlo
     }
 }
 
-/// Makes the files of a world of these words at tick 0 in the folder at this path, as `create_zeros` makes one of zeros.
+/// Makes the files of a world of these words at tick 0 in the folder at this path, as
+/// `create_zeros` makes one of zeros.
 pub fn create_listed<F: Folder>(
     alloc: Global,
     folder: &mut F,
@@ -117,10 +127,13 @@ pub fn create_listed<F: Folder>(
 ) -> Result<(FourFiles<F::File>, Made), Ending>
     requires { IsWorld listed.now.words.items }
     ensures created { IsTrue F.honest → IsTrue F.File.honest → IfOk result (λ created.
-        IsCreatedOfWords F.identity F.File.content F.File.may_leave listed.now.words.items created.0 (F.history folder.old) (F.history folder.new)) }
+        IsCreatedOfWords F.identity F.File.content F.File.may_leave listed.now.words.items created.0
+        (F.history folder.old) (F.history folder.new)) }
     ensures cells { IfOk result (λ created. created.1.cells ≡ length listed.now.words.items) }
-    ensures refused { IsTrue F.honest → IsTrue F.File.honest → IfErr result (λ ending. IsOccupied ending
-        → IsRefused F.identity F.File.content F.File.may_leave path.now ending (F.history folder.old) (F.history folder.new)) }
+    ensures refused { IsTrue F.honest → IsTrue F.File.honest
+        → IfErr result (λ ending. IsOccupied ending
+        → IsRefused F.identity F.File.content F.File.may_leave path.now ending
+        (F.history folder.old) (F.history folder.new)) }
     ensures fault { IfErr result IsFault }
 {
     let mut made = MadeFiles::none();
@@ -142,10 +155,13 @@ fn make_listed<F: Folder>(
 ) -> Result<(FourFiles<F::File>, Made), Ending>
     requires { IsWorld listed.now.words.items }
     ensures words { IsTrue F.honest → IsTrue F.File.honest → IfOk result (λ made.
-        AreWords F.identity F.File.content F.File.may_leave listed.now.words.items made.0 (F.history folder.old) (F.history folder.new)) }
+        AreWords F.identity F.File.content F.File.may_leave listed.now.words.items made.0
+        (F.history folder.old) (F.history folder.new)) }
     ensures cells { IfOk result (λ made. made.1.cells ≡ length listed.now.words.items) }
-    ensures refused { IsTrue F.honest → IsTrue F.File.honest → IfErr result (λ ending. IsOccupied ending
-        → IsRefused F.identity F.File.content F.File.may_leave path.now ending (F.history folder.old) (F.history folder.new)) }
+    ensures refused { IsTrue F.honest → IsTrue F.File.honest
+        → IfErr result (λ ending. IsOccupied ending
+        → IsRefused F.identity F.File.content F.File.may_leave path.now ending
+        (F.history folder.old) (F.history folder.new)) }
     ensures fault { IfErr result IsFault }
 {
     let files = four_files(alloc, folder, path, made)?;
@@ -155,7 +171,8 @@ fn make_listed<F: Folder>(
     }
 }
 
-// The four files of a folder in which a world is to be made. They are made durable with their names.
+// The four files of a folder in which a world is to be made. They are made durable
+// with their names.
 fn four_files<F: Folder>(
     alloc: Global,
     folder: &mut F,
@@ -163,9 +180,12 @@ fn four_files<F: Folder>(
     made: &mut MadeFiles,
 ) -> Result<FourFiles<F::File>, Ending>
     ensures taken { IsTrue F.honest → IsTrue F.File.honest → IfOk result (λ files.
-        AreTaken F.File.content F.File.may_leave F.identity files (F.history folder.old) (F.history folder.new)) }
-    ensures refused { IsTrue F.honest → IsTrue F.File.honest → IfErr result (λ ending. IsOccupied ending
-        → IsRefused F.identity F.File.content F.File.may_leave path.now ending (F.history folder.old) (F.history folder.new)) }
+        AreTaken F.File.content F.File.may_leave F.identity files (F.history folder.old)
+        (F.history folder.new)) }
+    ensures refused { IsTrue F.honest → IsTrue F.File.honest
+        → IfErr result (λ ending. IsOccupied ending
+        → IsRefused F.identity F.File.content F.File.may_leave path.now ending
+        (F.history folder.old) (F.history folder.new)) }
     ensures fault { IfErr result IsFault }
 {
     let mut present = open_present(alloc, folder, path)?;
@@ -196,8 +216,10 @@ fn read_list_file<R: Files<File = File> + AllocGlobal>(rt: &R, list: &str) -> io
 
 // The text of a list: all of it, unless it is longer than the longest text of a world.
 fn read_text<S: Read>(alloc: Global, list: &mut S) -> io::Result<Vec<u8>>
-    ensures read { IfOk result (λ text. Consumes (S.remaining list.old) (S.remaining list.new) text.items) }
-    ensures all { IfOk result (λ text. length text.items < TEXT_BYTES → IsAtEnd (S.remaining list.new)) }
+    ensures read { IfOk result (λ text.
+        Consumes (S.remaining list.old) (S.remaining list.new) text.items) }
+    ensures all { IfOk result (λ text. length text.items < TEXT_BYTES
+        → IsAtEnd (S.remaining list.new)) }
 {
     read_forward(alloc, list, TEXT_BYTES)
 }
@@ -221,7 +243,8 @@ fn not_made<D: WorldDisk + Drop>(
 ) -> Ending
     requires { IsFault ending }
     ensures other { ending ≢ Ending.Fault Refusal.Device → result ≡ ending }
-    ensures device { IsTrue D.honest → ending ≡ Ending.Fault Refusal.Device → ReportsFailure folder.now (first_failure (D.failure files.image_a)
+    ensures device { IsTrue D.honest → ending ≡ Ending.Fault Refusal.Device
+        → ReportsFailure folder.now (first_failure (D.failure files.image_a)
         (D.failure files.image_b) (D.failure files.log_a) (D.failure files.log_b)) result }
     ensures same { IsOccupied result → result ≡ ending }
     ensures fault { IsFault result }
@@ -232,7 +255,8 @@ fn not_made<D: WorldDisk + Drop>(
     }
 }
 
-// How the program ends if the files that are there can't be looked at: of a device that failed the file is named.
+// How the program ends if the files that are there can't be looked at: of a device that failed
+// the file is named.
 fn not_read<D: WorldDisk + Drop>(
     alloc: Global,
     folder: &str,
@@ -241,8 +265,10 @@ fn not_read<D: WorldDisk + Drop>(
 ) -> Ending
     requires { IsFault ending }
     ensures other { ending ≢ Ending.Fault Refusal.Device → result ≡ ending }
-    ensures device { IsTrue D.honest → ending ≡ Ending.Fault Refusal.Device → ReportsFailure folder.now (first_failure (failure_there D.failure present.image_a)
-        (failure_there D.failure present.image_b) (failure_there D.failure present.log_a) (failure_there D.failure present.log_b)) result }
+    ensures device { IsTrue D.honest → ending ≡ Ending.Fault Refusal.Device
+        → ReportsFailure folder.now (first_failure (failure_there D.failure present.image_a)
+        (failure_there D.failure present.image_b) (failure_there D.failure present.log_a)
+        (failure_there D.failure present.log_b)) result }
     ensures same { IsOccupied result → result ≡ ending }
     ensures fault { IsFault result }
 {

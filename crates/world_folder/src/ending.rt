@@ -2,7 +2,8 @@ ghost use Rattle.std.specs.Prelude.{◌≡◌, Some, true, false};
 ghost use Rattle.std.specs.Path.{path_buf_bytes};
 ghost use Rattle.std.specs.Process.{exit_status};
 ghost use Rattle.world_folder.specs.Completing.{IsOccupied};
-ghost use Rattle.world_folder.specs.Ending.{IsFault, IsStatusOfError, IsStatusOfRefusal, IsStatusOfServer, IsStatusOfUnfinished};
+ghost use Rattle.world_folder.specs.Ending.{IsFault, IsStatusOfError, IsStatusOfRefusal};
+ghost use Rattle.world_folder.specs.Ending.{IsStatusOfServer, IsStatusOfUnfinished};
 ghost use Rattle.world_folder.specs.Texts.{fault_text, filled_text, unlisted_text};
 
 use crate::escaped::Escaped;

@@ -6,7 +6,8 @@ ghost use Rattle.world_folder.specs.Texts.{shown_text};
 use std::char;
 use std::fmt::{self, Display};
 
-/// A text whose control characters print as `\\x1b`. A path may have any, and a terminal would obey them.
+/// A text whose control characters print as `\\x1b`. A path may have any, and a terminal
+/// would obey them.
 #[derive(Clone, Copy, Drop)]
 pub struct Escaped<D: Display + Drop>(pub D);
 

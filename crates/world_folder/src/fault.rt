@@ -98,7 +98,8 @@ fn names_of(
     a: &'static str,
     b: &'static str,
 ) -> (&'static str, &'static str, &'static str)
-    ensures { result.0.now ++ result.1.now ++ result.2.now ≡ damaged_names damaged a.entry.now b.entry.now }
+    ensures { result.0.now ++ result.1.now ++ result.2.now
+        ≡ damaged_names damaged a.entry.now b.entry.now }
 {
     match (damaged.a, damaged.b) {
         (true, true) => (a, " and ", b),
@@ -107,7 +108,8 @@ fn names_of(
     }
 }
 
-/// The world that four files hold, or the reason why they hold none. A world that lacks ticks which were answered is none.
+/// The world that four files hold, or the reason why they hold none. A world that lacks ticks which
+/// were answered is none.
 pub fn stands_in(alloc: Global, files: &FourFiles<Vec<u8>>) -> Result<Recovered, Fault>
     ensures recovered { IfOk result (Stands files.now) }
     ensures whole { IfOk result (λ found. IsWhole files.now found) }
@@ -139,7 +141,8 @@ fn found_in(alloc: Global, files: &FourFiles<Vec<u8>>) -> Result<Recovered, Faul
 
 // Which file a refusal is of.
 fn fault_of(alloc: Global, files: &FourFiles<Vec<u8>>, refusal: Refusal) -> Fault
-    requires { (refusal ≡ Refusal.NoMemory) ⊎ Recovers files.now.image_a.items files.now.image_b.items
+    requires { (refusal ≡ Refusal.NoMemory)
+        ⊎ Recovers files.now.image_a.items files.now.image_b.items
         files.now.log_a.items files.now.log_b.items (Err refusal) }
     ensures { Explains files.now result }
 {
@@ -182,7 +185,8 @@ fn is_bad_image(alloc: Global, bytes: &[u8]) -> bool
 
 // True if a segment is open and of neither format. It is refused if there is no memory to read it.
 fn is_bad_segment(alloc: Global, bytes: &[u8]) -> Result<bool, Refusal>
-    ensures reported { IfOk result (λ is_bad. IsTrue is_bad ↔ IsSegment bytes.now MalformedSegment) }
+    ensures reported { IfOk result (λ is_bad. IsTrue is_bad
+        ↔ IsSegment bytes.now MalformedSegment) }
     ensures memory { IfErr result (λ refusal. refusal ≡ Refusal.NoMemory) }
 {
     match read_log(alloc, bytes) {

@@ -1,9 +1,12 @@
 //! The calls of the system that the commands make in one folder, and the lines that they print.
-ghost use Rattle.std.specs.Prelude.{◌≡◌, ◌∷◌, [], ℕ, Bool, true, Ok, List, Option, Some, None, IsTrue, IfOk, OnOk, OnErr};
+ghost use Rattle.std.specs.Prelude.{◌≡◌, ◌∷◌, [], ℕ, Bool, true, Ok, List, Option, Some, None};
+ghost use Rattle.std.specs.Prelude.{IsTrue, IfOk, OnOk, OnErr};
 ghost use Rattle.std.specs.declared.io.Error.{Error};
 ghost use Rattle.std.proofs.lemmas.Bool.{false≢true};
 ghost use Rattle.disk_model.specs.Disk.{Only};
-ghost use Rattle.world_folder.specs.History.{Act, Looked, Opened, Made, Locked, Read, Measured, Asked, NamesSynced, OwnNameSynced, FoundEmpty, IsPrinted, IsWarned};
+ghost use Rattle.world_folder.specs.History.{Act, Looked, Opened, Made, Locked, Read, Measured};
+ghost use Rattle.world_folder.specs.History.{Asked, NamesSynced, OwnNameSynced, FoundEmpty};
+ghost use Rattle.world_folder.specs.History.{IsPrinted, IsWarned};
 ghost use Rattle.world_folder.specs.declared.entry.Entry.{Entry as FileEntry};
 ghost use Rattle.world_folder.specs.declared.entry.Identity.{Identity as FileIdentity};
 
@@ -42,14 +45,16 @@ impl WorldDisk for FileDisk {
     }
 }
 
-/// A folder of the system with the four files of a world. A call that fails is no part of its history.
+/// A folder of the system with the four files of a world. A call that fails is no
+/// part of its history.
 pub trait Folder {
     /// A file that is open to be written.
     type Handle: Drop;
 
     type File: WorldDisk + Drop;
 
-    /// True if each call of this type does and answers what its name says. If it is false, contracts state nothing of the calls.
+    /// True if each call of this type does and answers what its name says. If it is false,
+    /// contracts state nothing of the calls.
     ghost honest: { Bool };
 
     /// The calls that succeeded, and the lines that were printed, the latest one first.
@@ -66,21 +71,28 @@ pub trait Folder {
 
     /// What stands under a name, if anything does. It follows no symbolic link.
     fn look(&mut self, file: WorldFile) -> io::Result<Option<Entry>>
-        ensures looked { IsTrue honest → IfOk result (λ there. history self.new ≡ Looked file there ∷ history self.old) }
+        ensures looked { IsTrue honest
+            → IfOk result (λ there. history self.new ≡ Looked file there ∷ history self.old) }
         ensures failed { IsTrue honest → OnErr result (history self.new ≡ history self.old) };
 
     /// Opens the file to which a name leads, to read and write it.
     fn open(&mut self, file: WorldFile) -> io::Result<Self::Handle>
-        ensures opened { IsTrue honest → IfOk result (λ handle. history self.new ≡ Opened file (entry_of handle) ∷ history self.old) };
+        ensures opened { IsTrue honest
+            → IfOk result (λ handle. history self.new
+            ≡ Opened file (entry_of handle) ∷ history self.old) };
 
     /// Makes a file that only its owner may read and write. One that is there is an error.
     fn make(&mut self, file: WorldFile) -> io::Result<Self::Handle>
-        ensures made { IsTrue honest → IfOk result (λ handle. history self.new ≡ Made file (entry_of handle) ∷ history self.old) }
+        ensures made { IsTrue honest
+            → IfOk result (λ handle. history self.new
+            ≡ Made file (entry_of handle) ∷ history self.old) }
         ensures empty { IsTrue honest → IfOk result (λ handle. content_of handle ≡ []) };
 
     /// Opens the file to which a name leads, only to read it.
     fn open_to_read(&mut self, file: WorldFile, how: Reading) -> io::Result<Self::File>
-        ensures read { IsTrue honest → IfOk result (λ disk. history self.new ≡ Read file (Self.File.content disk) ∷ history self.old) }
+        ensures read { IsTrue honest
+            → IfOk result (λ disk. history self.new
+            ≡ Read file (Self.File.content disk) ∷ history self.old) }
         ensures failed { IsTrue honest → OnErr result (history self.new ≡ history self.old) };
 
     /// Describes an open file.
@@ -90,43 +102,55 @@ pub trait Folder {
 
     /// Locks an open file for this program, which writes it.
     fn lock(&mut self, handle: &Self::Handle) -> io::Result<()>
-        ensures locked { IsTrue honest → OnOk result (history self.new ≡ Locked (entry_of handle.now) ∷ history self.old) };
+        ensures locked { IsTrue honest
+            → OnOk result (history self.new ≡ Locked (entry_of handle.now) ∷ history self.old) };
 
     /// Takes an open file as a disk, which is synced.
     fn take(&mut self, handle: Self::Handle) -> io::Result<Self::File>
-        ensures file { IsTrue honest → IfOk result (λ disk. identity disk ≡ (entry_of handle).identity) }
-        ensures content { IsTrue honest → IsTrue Self.File.honest → IfOk result (λ disk. Self.File.content disk ≡ content_of handle) }
-        ensures synced { IsTrue honest → IsTrue Self.File.honest → IfOk result (λ disk. Only (Self.File.content disk) (Self.File.may_leave disk)) }
+        ensures file { IsTrue honest
+            → IfOk result (λ disk. identity disk ≡ (entry_of handle).identity) }
+        ensures content { IsTrue honest → IsTrue Self.File.honest
+            → IfOk result (λ disk. Self.File.content disk ≡ content_of handle) }
+        ensures synced { IsTrue honest → IsTrue Self.File.honest
+            → IfOk result (λ disk. Only (Self.File.content disk) (Self.File.may_leave disk)) }
         ensures kept { IsTrue honest → history self.new ≡ history self.old };
 
     /// Makes the names of the files durable.
     fn sync_names(&mut self) -> io::Result<()>
-        ensures synced { IsTrue honest → OnOk result (history self.new ≡ NamesSynced ∷ history self.old) };
+        ensures synced { IsTrue honest
+            → OnOk result (history self.new ≡ NamesSynced ∷ history self.old) };
 
     /// Makes the name of the folder durable.
     fn sync_own_name(&mut self) -> io::Result<()>
-        ensures synced { IsTrue honest → OnOk result (history self.new ≡ OwnNameSynced ∷ history self.old) };
+        ensures synced { IsTrue honest
+            → OnOk result (history self.new ≡ OwnNameSynced ∷ history self.old) };
 
     /// Prints a line on standard output.
     fn print<T: Display + Drop>(&mut self, line: T) -> io::Result<()>
-        ensures printed { IsTrue honest → OnOk result (IsPrinted (T.output line) (history self.old) (history self.new)) };
+        ensures printed { IsTrue honest
+            → OnOk result (IsPrinted (T.output line) (history self.old) (history self.new)) };
 
     /// Prints a line on standard error, if that can be written. It is no error if it can't.
     fn warn<T: Display + Drop>(&mut self, line: T) -> io::Result<()>
-        ensures warned { IsTrue honest → OnOk result (IsWarned (T.output line) (history self.old) (history self.new)) };
+        ensures warned { IsTrue honest
+            → OnOk result (IsWarned (T.output line) (history self.old) (history self.new)) };
 
     /// True if the folder has no file.
     fn is_empty(&mut self) -> io::Result<bool>
-        ensures empty { IsTrue honest → result ≡ Ok true → history self.new ≡ FoundEmpty ∷ history self.old };
+        ensures empty { IsTrue honest → result ≡ Ok true
+            → history self.new ≡ FoundEmpty ∷ history self.old };
 
     /// How long the file is to which a name leads.
     fn length(&mut self, file: WorldFile) -> io::Result<u64>
-        ensures length { IsTrue honest → IfOk result (λ length. history self.new ≡ Measured file length ∷ history self.old) }
+        ensures length { IsTrue honest
+            → IfOk result (λ length. history self.new ≡ Measured file length ∷ history self.old) }
         ensures failed { IsTrue honest → OnErr result (history self.new ≡ history self.old) };
 
-    /// Asks for the lock of the file to which a name leads, as a reader does. It is no error if the system can't say.
+    /// Asks for the lock of the file to which a name leads, as a reader does. It is no error if the
+    /// system can't say.
     fn lock_state(&mut self, file: WorldFile) -> io::Result<LockState>
-        ensures asked { IsTrue honest → IfOk result (λ state. history self.new ≡ Asked file state ∷ history self.old) };
+        ensures asked { IsTrue honest
+            → IfOk result (λ state. history self.new ≡ Asked file state ∷ history self.old) };
 
     /// Waits a moment.
     fn pause(&mut self)

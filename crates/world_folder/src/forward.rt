@@ -5,13 +5,14 @@ ghost use Rattle.std.specs.Io.KnownBytes.{Consumes, IsAtEnd};
 use std::alloc::Global;
 use std::io::{self, ErrorKind, Read};
 
-/// How many bytes are read at once. The next read begins once this one has ended, so a byte of a later page is never older
-/// than one of an earlier page.
+/// How many bytes are read at once. The next read begins once this one has ended, so a byte of a
+/// later page is never older than one of an earlier page.
 const PAGE_BYTES: usize = 4_096;
 
 /// Reads to the end of a reader, or so many bytes of it.
 pub fn read_forward<R: Read>(alloc: Global, r: &mut R, most: usize) -> io::Result<Vec<u8>>
-    ensures read { IfOk result (λ bytes. Consumes (R.remaining r.old) (R.remaining r.new) bytes.items) }
+    ensures read { IfOk result (λ bytes.
+        Consumes (R.remaining r.old) (R.remaining r.new) bytes.items) }
     ensures most { IfOk result (λ bytes. length bytes.items ≤ most) }
     ensures all { IfOk result (λ bytes. length bytes.items < most → IsAtEnd (R.remaining r.new)) }
 {

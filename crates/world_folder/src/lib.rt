@@ -1,9 +1,9 @@
-//! A world in the files of a folder: the commands that make a world, the locks under which one is served, and how a program
-//! over one ends.
+//! A world in the files of a folder: the commands that make a world, the locks under which one is
+//! served, and how a program over one ends.
 //!
-//! `create` makes the files of a new world, and `create_of_words` those of one with given words. `open_existing` locks the
-//! files to serve their world. A `Folder` is where the files are: of the system, or in memory. An `Ending` says what went
-//! wrong, and names the file.
+//! `create` makes the files of a new world, and `create_of_words` those of one with given words.
+//! `open_existing` locks the files to serve their world. A `Folder` is where the files are: of the
+//! system, or in memory. An `Ending` says what went wrong, and names the file.
 #![tactic(auto)]
 
 mod completing;

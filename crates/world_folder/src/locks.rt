@@ -1,5 +1,5 @@
-//! The lock of a file, by which programs know that another one writes it. It is the system's advisory lock, which ends with
-//! the open file.
+//! The lock of a file, by which programs know that another one writes it. It is the system's
+//! advisory lock, which ends with the open file.
 ghost use Rattle.std.specs.Prelude.{◌≡◌, ◌≢◌, Ok, IsOk, IsErr, IfErr};
 
 use std::fs::{File, TryLockError};
@@ -28,8 +28,8 @@ pub enum LockState {
     Unknown,
 }
 
-/// Locks a file for the program that writes it. It is refused at once if another writer has the lock. A reader has it only
-/// for a moment: that is waited for, a second at most.
+/// Locks a file for the program that writes it. It is refused at once if another writer has the
+/// lock. A reader has it only for a moment: that is waited for, a second at most.
 pub fn lock<R: Clock>(rt: &R, file: &File) -> io::Result<()> {
     for _ in 0..TRIES {
         match file.try_lock() {
@@ -55,7 +55,8 @@ pub fn lock_state(file: &File) -> LockState {
 fn state_of(answer: Result<(), TryLockError>) -> LockState
     ensures free { IsOk answer → result ≡ LockState.Free }
     ensures held { answer ≡ Err TryLockError.WouldBlock → result ≡ LockState.Held }
-    ensures unknown { IfErr answer (λ error. error ≢ TryLockError.WouldBlock → result ≡ LockState.Unknown) }
+    ensures unknown { IfErr answer (λ error. error ≢ TryLockError.WouldBlock
+        → result ≡ LockState.Unknown) }
 {
     match answer {
         Ok(()) => LockState::Free,

@@ -1,4 +1,5 @@
-//! The findings in the heads of four files: which image is the newest, and which segments the log has.
+//! The findings in the heads of four files: which image is the newest, and which
+//! segments the log has.
 ghost use Rattle.std.specs.Prelude.{◌≡◌, ◌⊎◌, ◌≤◌, take, length, IsTrue, IfOk, IfErr};
 ghost use Rattle.disk_model.specs.FourFiles.{KeepsFile};
 ghost use Rattle.world_folder.specs.Look.{opened_tick, opened_base, newest_tick, look_of};
@@ -12,10 +13,12 @@ use world_actions::Refusal;
 /// The bytes of an image's head: its gate, its number of cells and its tick.
 pub const IMAGE_HEAD: usize = image_files::HEADER_BYTES;
 
-/// The bytes of a segment's head: its gate, its base, and the gate of its first group, which isn't looked at.
+/// The bytes of a segment's head: its gate, its base, and the gate of its first group, which
+/// isn't looked at.
 pub const SEGMENT_HEAD: usize = action_log::HEADER_BYTES;
 
-/// A look at the heads of four files. Two that are alike have the same newest image, and the same open segments.
+/// A look at the heads of four files. Two that are alike have the same newest image, and the
+/// same open segments.
 #[derive(Clone, Copy, Debug, PartialEq, Eq)]
 pub struct Look {
     /// The open image with the greatest tick, and this tick.
@@ -28,9 +31,11 @@ pub struct Look {
 
 /// Reads so many bytes of a file from its first one on, or all if it has fewer.
 pub fn read_head<D: Disk>(alloc: Global, disk: &mut D, most: usize) -> Result<Vec<u8>, Refusal>
-    ensures head { IsTrue D.honest → IfOk result (λ head. head.items ≡ take most (D.content disk.old)) }
+    ensures head { IsTrue D.honest
+        → IfOk result (λ head. head.items ≡ take most (D.content disk.old)) }
     ensures kept { IsTrue D.honest → KeepsFile D.content D.may_leave disk.old disk.new }
-    ensures refused { IfErr result (λ refusal. (refusal ≡ Refusal.Device) ⊎ (refusal ≡ Refusal.NoMemory)) }
+    ensures refused { IfErr result (λ refusal. (refusal ≡ Refusal.Device)
+        ⊎ (refusal ≡ Refusal.NoMemory)) }
 {
     let length = disk.len()?.min(most as u64);
     let mut head = vec![in alloc; 0; length as usize]?;

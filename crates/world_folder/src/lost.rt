@@ -1,7 +1,8 @@
 //! Files of which one was lost or emptied, so that ticks that were answered are in none.
 ghost use Rattle.std.specs.Prelude.{◌≡◌, ◌⊎◌, take, IsTrue, IfOk, IfErr, Some};
 ghost use Rattle.disk_model.specs.FourFiles.{EachFile, KeepsFile};
-ghost use Rattle.world_folder.specs.Lost.{begins_after, doubtful_log, empty_image, first_empty, lost_log, lost_of};
+ghost use Rattle.world_folder.specs.Lost.{begins_after, doubtful_log, empty_image, first_empty};
+ghost use Rattle.world_folder.specs.Lost.{lost_log, lost_of};
 ghost use Rattle.world_folder.specs.Texts.{doubtful_text, lost_text};
 
 use crate::look::{SEGMENT_HEAD, read_head};
@@ -17,9 +18,11 @@ use world_actions::Refusal;
 pub enum Lost {
     /// This image is empty, beside one of a tick above 0. By then both were written once.
     Image(Slot),
-    /// This log is empty, and a tick above 0 is recovered. The first start writes both logs, before a tick ends.
+    /// This log is empty, and a tick above 0 is recovered. The first start writes both logs,
+    /// before a tick ends.
     Log(Slot),
-    /// This log begins after the tick that is recovered. The ticks up to its beginning were answered.
+    /// This log begins after the tick that is recovered. The ticks up to its
+    /// beginning were answered.
     Gap(Slot),
 }
 
@@ -38,7 +41,8 @@ impl fmt::Display for Lost {
     }
 }
 
-/// What was lost of four files with these bytes, of which this tick is recovered from an image of the tick `from`.
+/// What was lost of four files with these bytes, of which this tick is recovered from an image of
+/// the tick `from`.
 pub fn lost_of(tick: u64, from: u64, files: &FourFiles<Vec<u8>>) -> Option<Lost>
     ensures { result ≡ lost_of tick from files.now.image_a.items files.now.image_b.items
         files.now.log_a.items files.now.log_b.items }
@@ -95,8 +99,8 @@ fn begins_after(tick: u64, log: &[u8]) -> bool
     }
 }
 
-/// A log that is empty, of a world that is recovered at tick 0. Either its first start was cut off, or the log was lost with
-/// ticks that were answered. The files don't say which.
+/// A log that is empty, of a world that is recovered at tick 0. Either its first start was cut off,
+/// or the log was lost with ticks that were answered. The files don't say which.
 #[derive(Clone, Copy, Debug, PartialEq, Eq)]
 pub struct Doubtful(pub Slot);
 
@@ -136,15 +140,18 @@ fn first_empty(log_a: &[u8], log_b: &[u8]) -> Option<Slot>
     }
 }
 
-/// Reads as much of each file as `lost_of` looks at. A server reads it before it recovers the world.
+/// Reads as much of each file as `lost_of` looks at. A server reads it before it
+/// recovers the world.
 pub fn read_heads<D: Disk>(
     alloc: Global,
     files: &mut FourFiles<D>,
 ) -> Result<FourFiles<Vec<u8>>, Refusal>
     ensures heads { IsTrue D.honest → IfOk result (λ heads. EachFile files.old heads
         (λ disk head. head.items ≡ take SEGMENT_HEAD (D.content disk))) }
-    ensures kept { IsTrue D.honest → EachFile files.old files.new (KeepsFile D.content D.may_leave) }
-    ensures refused { IfErr result (λ refusal. (refusal ≡ Refusal.Device) ⊎ (refusal ≡ Refusal.NoMemory)) }
+    ensures kept { IsTrue D.honest
+        → EachFile files.old files.new (KeepsFile D.content D.may_leave) }
+    ensures refused { IfErr result (λ refusal. (refusal ≡ Refusal.Device)
+        ⊎ (refusal ≡ Refusal.NoMemory)) }
 {
     Ok(FourFiles {
         image_a: read_head(alloc, &mut files.image_a, SEGMENT_HEAD)?,

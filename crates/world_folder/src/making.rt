@@ -10,7 +10,8 @@ ghost use Rattle.world_start.specs.Fresh.{AreClosed, AreMade, FilesAreClosed};
 ghost use Rattle.world_folder.specs.declared.ending.Occupied.{Occupied as Open};
 ghost use Rattle.world_folder.specs.Ending.{IsFault};
 ghost use Rattle.world_actions.specs.World.{IsWorld};
-ghost use Rattle.world_folder.specs.Making.{IsFirstOpen, ReportsUnmade, IsUnmade, HoldsWords, HoldsNoOther, OthersOnlyAsked};
+ghost use Rattle.world_folder.specs.Making.{IsFirstOpen, ReportsUnmade, IsUnmade, HoldsWords};
+ghost use Rattle.world_folder.specs.Making.{HoldsNoOther, OthersOnlyAsked};
 
 use crate::ending::{Ending, Occupied};
 use crate::opening::path_of;
@@ -23,7 +24,8 @@ use std::fmt;
 use world_actions::Refusal;
 use world_start::{are_closed, fresh_files, is_closed_image, is_closed_segment};
 
-/// Shows that the files of a world were made, of so many cells: only `make_in` and `make_of_words` give one.
+/// Shows that the files of a world were made, of so many cells: only `make_in` and
+/// `make_of_words` give one.
 #[derive(Clone, Copy, Debug, PartialEq, Eq)]
 pub struct Made {
     cells: u32,
@@ -49,8 +51,9 @@ impl fmt::Display for Made {
     }
 }
 
-/// Makes the files of a world of zeros at tick 0, of the four files of a folder. If one of them isn't closed, it only
-/// reads them, and names the first such file. A refusal gives the files back. A fault of a device names no file.
+/// Makes the files of a world of zeros at tick 0, of the four files of a folder. If one of them
+/// isn't closed, it only reads them, and names the first such file. A refusal gives the files back.
+/// A fault of a device names no file.
 pub fn make_in<D: Disk>(
     alloc: Global,
     folder: &str,
@@ -78,8 +81,9 @@ pub fn make_in<D: Disk>(
     }
 }
 
-/// Makes the files of a world of these words at tick 0, of the four files of a folder, as `make_in` makes one of zeros.
-/// The log stays closed: a server begins it. Bytes that no format reads aren't read.
+/// Makes the files of a world of these words at tick 0, of the four files of a folder, as
+/// `make_in` makes one of zeros. The log stays closed: a server begins it. Bytes that no format
+/// reads aren't read.
 pub fn make_of_words<D: Disk>(
     alloc: Global,
     folder: &str,
@@ -116,13 +120,16 @@ pub fn make_of_words<D: Disk>(
     }
 }
 
-// How the program ends if one of the files isn't closed. They are read once more, to find the first such file.
+// How the program ends if one of the files isn't closed. They are read once more, to find the
+// first such file.
 fn occupied<D: Disk>(alloc: Global, folder: &str, files: &mut FourFiles<D>) -> Ending
     ensures reported { IsTrue D.honest → ¬ FilesAreClosed D.content files.old
         → ReportsUnmade D.content folder.now files.old result }
-    ensures asked { FilesOnlyAsked D.called IMAGE_BYTES_MAX IMAGE_BYTES_MAX SEGMENT_BYTES_MAX SEGMENT_BYTES_MAX
+    ensures asked { FilesOnlyAsked D.called IMAGE_BYTES_MAX IMAGE_BYTES_MAX
+        SEGMENT_BYTES_MAX SEGMENT_BYTES_MAX
         files.old files.new }
-    ensures kept { IsTrue D.honest → EachFile files.old files.new (KeepsFile D.content D.may_leave) }
+    ensures kept { IsTrue D.honest
+        → EachFile files.old files.new (KeepsFile D.content D.may_leave) }
     ensures other { result ≢ Ending.Fault Refusal.Device }
     ensures fault { IsFault result }
 {
@@ -135,7 +142,8 @@ fn occupied<D: Disk>(alloc: Global, folder: &str, files: &mut FourFiles<D>) -> E
 // The end that names this file of the folder.
 fn occupied_by(alloc: Global, folder: &str, name: &str) -> Ending
     ensures { (result ≡ Ending.Fault Refusal.NoMemory)
-        ⊎ ((file : Open) × (result ≡ Ending.Occupied file) × (path_buf_bytes file.path ≡ path_join folder.now name.now)) }
+        ⊎ ((file : Open) × (result ≡ Ending.Occupied file)
+        × (path_buf_bytes file.path ≡ path_join folder.now name.now)) }
 {
     match path_of(alloc, folder, name) {
         Ok(path) => Ending::Occupied(Occupied { path }),
@@ -145,8 +153,10 @@ fn occupied_by(alloc: Global, folder: &str, name: &str) -> Ending
 
 // The name of the first file that isn't closed, of four of which one isn't.
 fn first_open(alloc: Global, bytes: &FourFiles<Vec<u8>>) -> &'static str
-    ensures { ¬ AreClosed bytes.now.image_a.items bytes.now.image_b.items bytes.now.log_a.items bytes.now.log_b.items
-        → IsFirstOpen bytes.now.image_a.items bytes.now.image_b.items bytes.now.log_a.items bytes.now.log_b.items
+    ensures { ¬ AreClosed bytes.now.image_a.items bytes.now.image_b.items
+        bytes.now.log_a.items bytes.now.log_b.items
+        → IsFirstOpen bytes.now.image_a.items bytes.now.image_b.items
+        bytes.now.log_a.items bytes.now.log_b.items
         result.now }
 {
     if !is_closed_image(alloc, &bytes.image_a) {

@@ -1,4 +1,5 @@
-//! A folder in memory. It shows that the promises of a folder's calls can be kept, and tests run commands on it.
+//! A folder in memory. It shows that the promises of a folder's calls can be kept, and tests
+//! run commands on it.
 ghost use Rattle.std.specs.Prelude.{◌≡◌, ◌∷◌, true, None, Option, IsTrue, OnOk, OnErr, IfOk, min};
 ghost use Rattle.disk_model.specs.Disk.{Only, last_count, min-last_count};
 ghost use Rattle.disk_model.specs.CrashOutcome.{IsCrashOutcome, content_stays};
@@ -76,8 +77,8 @@ impl WorldDisk for ModelDisk {
     }
 }
 
-/// A folder in memory. A read of a name gives the bytes that the folder was made with, whatever is written meanwhile. So a test
-/// gives the bytes of files that are to be made, too.
+/// A folder in memory. A read of a name gives the bytes that the folder was made with, whatever is
+/// written meanwhile. So a test gives the bytes of files that are to be made, too.
 #[derive(Drop)]
 pub struct ModelFolder {
     alloc: Global,
@@ -88,7 +89,8 @@ pub struct ModelFolder {
 }
 
 impl ModelFolder {
-    /// A folder of which each file that is there has these bytes. A file that isn't there has them once it was made.
+    /// A folder of which each file that is there has these bytes. A file that isn't there has them
+    /// once it was made.
     pub fn new(alloc: Global, bytes: FourFiles<Vec<u8>>, there: FourFiles<bool>) -> Self {
         ModelFolder {
             alloc,
@@ -106,8 +108,10 @@ impl ModelFolder {
     }
 
     fn note(&mut self, noted: Noted) -> io::Result<()>
-        ensures noted { OnOk result (acts_of self.new.noted.items ≡ act_of noted ∷ acts_of self.old.noted.items) }
-        ensures failed { OnErr result (acts_of self.new.noted.items ≡ acts_of self.old.noted.items) }
+        ensures noted { OnOk result
+            (acts_of self.new.noted.items ≡ act_of noted ∷ acts_of self.old.noted.items) }
+        ensures failed { OnErr result
+            (acts_of self.new.noted.items ≡ acts_of self.old.noted.items) }
     {
         match self.noted.insert(0, noted) {
             Ok(()) => Ok(()),

@@ -41,7 +41,8 @@ impl fmt::Display for Unreadable {
 
 /// Makes the names of a folder's files durable, and its own.
 pub fn sync_names<F: Folder>(alloc: Global, folder: &mut F, path: &str) -> Result<(), Ending>
-    ensures synced { IsTrue F.honest → OnOk result (F.history folder.new ≡ synced (F.history folder.old)) }
+    ensures synced { IsTrue F.honest
+        → OnOk result (F.history folder.new ≡ synced (F.history folder.old)) }
     ensures other { IfErr result (λ ending. ¬ IsOccupied ending) }
     ensures fault { IfErr result IsFault }
 {
@@ -61,15 +62,18 @@ pub fn open_existing<R: Files<File = File> + Clock + Print + Eprint + AllocGloba
     open_files(rt.alloc(), &mut SystemFolder::new(rt, folder), folder)
 }
 
-/// Opens the four files of a folder at this path to serve the world in them. It makes none, and syncs the folder. It refuses a
-/// symbolic link, a file with a second name, and one file twice. A writer of a world holds a lock on its image.a as long as the
-/// file is open, so no two programs write it.
+/// Opens the four files of a folder at this path to serve the world in them. It makes none, and
+/// syncs the folder. It refuses a symbolic link, a file with a second name, and one file twice.
+/// A writer of a world holds a lock on its image.a as long as the file is open, so no two
+/// programs write it.
 pub fn open_files<F: Folder>(
     alloc: Global,
     folder: &mut F,
     path: &str,
 ) -> Result<FourFiles<F::File>, Ending>
-    ensures held { IsTrue F.honest → IfOk result (λ files. AreHeld F.identity files (F.history folder.old) (F.history folder.new)) }
+    ensures held { IsTrue F.honest
+        → IfOk result (λ files.
+        AreHeld F.identity files (F.history folder.old) (F.history folder.new)) }
     ensures fault { IfErr result IsFault }
 {
     let files = open_each(alloc, folder, path)?;
@@ -81,13 +85,15 @@ pub fn open_files<F: Folder>(
 // Refuses one file under two names, and makes the names durable.
 fn settle<F: Folder>(folder: &mut F, files: &[Option<Identity>; 4]) -> io::Result<()>
     ensures apart { OnOk result (AreApart files.now) }
-    ensures synced { IsTrue F.honest → OnOk result (F.history folder.new ≡ NamesSynced ∷ F.history folder.old) }
+    ensures synced { IsTrue F.honest
+        → OnOk result (F.history folder.new ≡ NamesSynced ∷ F.history folder.old) }
 {
     are_apart(files)?;
     folder.sync_names()
 }
 
-// Opens each file by its own name, image.a first: no two programs then hold a part of the files each.
+// Opens each file by its own name, image.a first: no two programs then hold a part of
+// the files each.
 fn open_each<F: Folder>(
     alloc: Global,
     folder: &mut F,
@@ -95,7 +101,9 @@ fn open_each<F: Folder>(
 ) -> Result<FourFiles<OwnFile<F::File>>, Ending>
     ensures own { IsTrue F.honest → IfOk result (λ files.
         AreOwn (λ own. F.identity own.disk) files (F.history folder.old) (F.history folder.new)) }
-    ensures identities { IsTrue F.honest → IfOk result (λ files. EachFile files files (λ own _. own.identity ≡ F.identity own.disk)) }
+    ensures identities { IsTrue F.honest
+        → IfOk result (λ files.
+        EachFile files files (λ own _. own.identity ≡ F.identity own.disk)) }
     ensures fault { IfErr result IsFault }
 {
     Ok(FourFiles {
@@ -112,7 +120,9 @@ fn open_named<F: Folder>(
     path: &str,
     file: WorldFile,
 ) -> Result<OwnFile<F::File>, Ending>
-    ensures own { IsTrue F.honest → IfOk result (λ own. IsOwn file (F.identity own.disk) (F.history folder.old) (F.history folder.new)) }
+    ensures own { IsTrue F.honest
+        → IfOk result (λ own.
+        IsOwn file (F.identity own.disk) (F.history folder.old) (F.history folder.new)) }
     ensures identity { IsTrue F.honest → IfOk result (λ own. own.identity ≡ F.identity own.disk) }
     ensures named { IfErr result (NamesFile path.now file) }
     ensures fault { IfErr result IsFault }
@@ -184,7 +194,9 @@ pub fn path_of(alloc: Global, folder: &str, name: &str) -> Result<PathBuf, Alloc
 
 /// How the program ends if a call of one of the files failed: the first one is named.
 pub fn failure_of<D: WorldDisk + Drop>(alloc: Global, folder: &str, files: FourFiles<D>) -> Ending
-    ensures first { IsTrue D.honest → ReportsFailure folder.now (first_failure (D.failure files.image_a) (D.failure files.image_b)
+    ensures first { IsTrue D.honest
+        → ReportsFailure folder.now
+        (first_failure (D.failure files.image_a) (D.failure files.image_b)
         (D.failure files.log_a) (D.failure files.log_b)) result }
     ensures other { ¬ IsOccupied result }
     ensures fault { IsFault result }
@@ -210,8 +222,10 @@ pub fn failure_of_present<D: WorldDisk + Drop>(
     folder: &str,
     files: FourFiles<Option<D>>,
 ) -> Ending
-    ensures first { IsTrue D.honest → ReportsFailure folder.now (first_failure (failure_there D.failure files.image_a)
-        (failure_there D.failure files.image_b) (failure_there D.failure files.log_a) (failure_there D.failure files.log_b)) result }
+    ensures first { IsTrue D.honest
+        → ReportsFailure folder.now (first_failure (failure_there D.failure files.image_a)
+        (failure_there D.failure files.image_b) (failure_there D.failure files.log_a)
+        (failure_there D.failure files.log_b)) result }
     ensures other { ¬ IsOccupied result }
     ensures fault { IsFault result }
 {
@@ -228,7 +242,8 @@ pub fn failure_of_present<D: WorldDisk + Drop>(
 // The first file that failed, and why.
 fn first_failure<D: WorldDisk>(files: &mut FourFiles<Option<D>>) -> Option<(WorldFile, io::Error)>
     ensures { IsTrue D.honest → result ≡ first_failure (failure_there D.failure files.old.image_a)
-        (failure_there D.failure files.old.image_b) (failure_there D.failure files.old.log_a) (failure_there D.failure files.old.log_b) }
+        (failure_there D.failure files.old.image_b) (failure_there D.failure files.old.log_a)
+        (failure_there D.failure files.old.log_b) }
 {
     if let Some(error) = failure_in(&mut files.image_a) {
         return Some((WorldFile::ImageA, error));

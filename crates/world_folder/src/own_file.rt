@@ -1,5 +1,6 @@
 //! A file that a world has to itself.
-ghost use Rattle.std.specs.Prelude.{◌≡◌, ◌∷◌, false, None, IsTrue, IfOk, IfSome, IfNone, IsOk, OnOk};
+ghost use Rattle.std.specs.Prelude.{◌≡◌, ◌∷◌, false, None, IsTrue, IfOk, IfSome, IfNone, IsOk};
+ghost use Rattle.std.specs.Prelude.{OnOk};
 ghost use Rattle.disk_model.specs.Disk.{Only};
 ghost use Rattle.world_folder.specs.History.{Looked, with_lock};
 ghost use Rattle.world_folder.specs.OwnFile.{IsApart, AreApart, IsOwn, IsOnlyFile};
@@ -19,10 +20,12 @@ pub struct OwnFile<D> {
     pub identity: Identity,
 }
 
-/// Opens a file of a folder to write it, and locks it if it is image.a. Its one name has to be an ordinary one, and no other
-/// file may take its place meanwhile.
+/// Opens a file of a folder to write it, and locks it if it is image.a. Its one name has to be an
+/// ordinary one, and no other file may take its place meanwhile.
 pub fn open_own<F: Folder>(folder: &mut F, file: WorldFile) -> io::Result<OwnFile<F::File>>
-    ensures own { IsTrue F.honest → IfOk result (λ own. IsOwn file (F.identity own.disk) (F.history folder.old) (F.history folder.new)) }
+    ensures own { IsTrue F.honest
+        → IfOk result (λ own.
+        IsOwn file (F.identity own.disk) (F.history folder.old) (F.history folder.new)) }
     ensures disk { IsTrue F.honest → IfOk result (λ own. own.identity ≡ F.identity own.disk) }
 {
     match find_own(folder, file)? {
@@ -34,10 +37,12 @@ pub fn open_own<F: Folder>(folder: &mut F, file: WorldFile) -> io::Result<OwnFil
 /// The same, or `None` if nothing stands under this name.
 pub fn find_own<F: Folder>(folder: &mut F, file: WorldFile) -> io::Result<Option<OwnFile<F::File>>>
     ensures own { IsTrue F.honest → IfOk result (λ found.
-        IfSome found (λ own. IsOwn file (F.identity own.disk) (F.history folder.old) (F.history folder.new))) }
+        IfSome found (λ own.
+        IsOwn file (F.identity own.disk) (F.history folder.old) (F.history folder.new))) }
     ensures none { IsTrue F.honest → IfOk result (λ found.
         IfNone found (F.history folder.new ≡ Looked file None ∷ F.history folder.old)) }
-    ensures disk { IsTrue F.honest → IfOk result (λ found. IfSome found (λ own. own.identity ≡ F.identity own.disk)) }
+    ensures disk { IsTrue F.honest
+        → IfOk result (λ found. IfSome found (λ own. own.identity ≡ F.identity own.disk)) }
     ensures synced { IsTrue F.honest → IsTrue F.File.honest → IfOk result (λ found.
         IfSome found (λ own. Only (F.File.content own.disk) (F.File.may_leave own.disk))) }
 {
@@ -53,9 +58,12 @@ fn open_there<F: Folder>(
     file: WorldFile,
     there: Entry,
 ) -> io::Result<OwnFile<F::File>>
-    ensures own { IsTrue F.honest → IfOk result (λ own. IsOnlyFile file there (F.identity own.disk) (F.history folder.old) (F.history folder.new)) }
+    ensures own { IsTrue F.honest
+        → IfOk result (λ own.
+        IsOnlyFile file there (F.identity own.disk) (F.history folder.old) (F.history folder.new)) }
     ensures disk { IsTrue F.honest → IfOk result (λ own. own.identity ≡ F.identity own.disk) }
-    ensures synced { IsTrue F.honest → IsTrue F.File.honest → IfOk result (λ own. Only (F.File.content own.disk) (F.File.may_leave own.disk)) }
+    ensures synced { IsTrue F.honest → IsTrue F.File.honest
+        → IfOk result (λ own. Only (F.File.content own.disk) (F.File.may_leave own.disk)) }
 {
     unless_odd(there)?;
     let handle = folder.open(file)?;
@@ -99,9 +107,13 @@ pub fn take_own<F: Folder>(
     file: WorldFile,
     handle: F::Handle,
 ) -> io::Result<F::File>
-    ensures locked { IsTrue F.honest → OnOk result (F.history folder.new ≡ with_lock file (F.entry_of handle) (F.history folder.old)) }
-    ensures disk { IsTrue F.honest → IfOk result (λ disk. F.identity disk ≡ (F.entry_of handle).identity) }
-    ensures synced { IsTrue F.honest → IsTrue F.File.honest → IfOk result (λ disk. Only (F.File.content disk) (F.File.may_leave disk)) }
+    ensures locked { IsTrue F.honest
+        → OnOk result
+        (F.history folder.new ≡ with_lock file (F.entry_of handle) (F.history folder.old)) }
+    ensures disk { IsTrue F.honest
+        → IfOk result (λ disk. F.identity disk ≡ (F.entry_of handle).identity) }
+    ensures synced { IsTrue F.honest → IsTrue F.File.honest
+        → IfOk result (λ disk. Only (F.File.content disk) (F.File.may_leave disk)) }
 {
     if file == WorldFile::ImageA {
         folder.lock(&handle)?;

@@ -15,15 +15,17 @@ use crate::world_file::WorldFile;
 use disk_model::FourFiles;
 use std::alloc::Global;
 
-/// Opens those files of a folder that are there, to write them, with the refusals and the lock of `open_files`. It makes
-/// none.
+/// Opens those files of a folder that are there, to write them, with the refusals and the lock of
+/// `open_files`. It makes none.
 pub fn open_present<F: Folder>(
     alloc: Global,
     folder: &mut F,
     path: &str,
 ) -> Result<FourFiles<Option<F::File>>, Ending>
-    ensures found { IsTrue F.honest → IfOk result (λ files. AreFound F.identity files (F.history folder.old) (F.history folder.new)) }
-    ensures synced { IsTrue F.honest → IsTrue F.File.honest → IfOk result (EachSynced F.File.content F.File.may_leave) }
+    ensures found { IsTrue F.honest → IfOk result
+        (λ files. AreFound F.identity files (F.history folder.old) (F.history folder.new)) }
+    ensures synced { IsTrue F.honest → IsTrue F.File.honest
+        → IfOk result (EachSynced F.File.content F.File.may_leave) }
     ensures other { IfErr result (λ ending. ¬ IsOccupied ending) }
     ensures fault { IfErr result IsFault }
 {
@@ -39,10 +41,16 @@ fn find_each<F: Folder>(
     folder: &mut F,
     path: &str,
 ) -> Result<FourFiles<Option<OwnFile<F::File>>>, Ending>
-    ensures found { IsTrue F.honest → IfOk result (λ files. AreLookedFor (λ own. F.identity own.disk) files (F.history folder.old) (F.history folder.new)) }
-    ensures identities { IsTrue F.honest → IfOk result (λ files. EachFile files files (λ found _. IfSome found (λ own. own.identity ≡ F.identity own.disk))) }
-    ensures synced { IsTrue F.honest → IsTrue F.File.honest → IfOk result (λ files. EachFile files files
-        (λ found _. IfSome found (λ own. Only (F.File.content own.disk) (F.File.may_leave own.disk)))) }
+    ensures found { IsTrue F.honest
+        → IfOk result (λ files. AreLookedFor (λ own. F.identity own.disk) files
+        (F.history folder.old) (F.history folder.new)) }
+    ensures identities { IsTrue F.honest
+        → IfOk result (λ files. EachFile files files (λ found _.
+        IfSome found (λ own. own.identity ≡ F.identity own.disk))) }
+    ensures synced { IsTrue F.honest → IsTrue F.File.honest
+        → IfOk result (λ files. EachFile files files
+        (λ found _. IfSome found (λ own.
+        Only (F.File.content own.disk) (F.File.may_leave own.disk)))) }
     ensures other { IfErr result (λ ending. ¬ IsOccupied ending) }
     ensures fault { IfErr result IsFault }
 {
@@ -61,8 +69,10 @@ fn find_named<F: Folder>(
     file: WorldFile,
 ) -> Result<Option<OwnFile<F::File>>, Ending>
     ensures found { IsTrue F.honest → IfOk result (λ found.
-        IsOwnIfThere (λ own. F.identity own.disk) file found (F.history folder.old) (F.history folder.new)) }
-    ensures identity { IsTrue F.honest → IfOk result (λ found. IfSome found (λ own. own.identity ≡ F.identity own.disk)) }
+        IsOwnIfThere (λ own. F.identity own.disk) file found (F.history folder.old)
+        (F.history folder.new)) }
+    ensures identity { IsTrue F.honest
+        → IfOk result (λ found. IfSome found (λ own. own.identity ≡ F.identity own.disk)) }
     ensures synced { IsTrue F.honest → IsTrue F.File.honest → IfOk result (λ found.
         IfSome found (λ own. Only (F.File.content own.disk) (F.File.may_leave own.disk))) }
     ensures named { IfErr result (NamesFile path.now file) }
@@ -74,8 +84,10 @@ fn find_named<F: Folder>(
 }
 
 fn identities_of<D>(files: &FourFiles<Option<OwnFile<D>>>) -> [Option<Identity>; 4]
-    ensures { result ≡ option_map (λ own. own.identity) files.now.image_a ∷ option_map (λ own. own.identity) files.now.image_b
-        ∷ option_map (λ own. own.identity) files.now.log_a ∷ option_map (λ own. own.identity) files.now.log_b ∷ [] }
+    ensures { result ≡ option_map (λ own. own.identity) files.now.image_a ∷ option_map
+        (λ own. own.identity) files.now.image_b
+        ∷ option_map (λ own. own.identity) files.now.log_a ∷ option_map
+        (λ own. own.identity) files.now.log_b ∷ [] }
 {
     [
         identity_of(&files.image_a),

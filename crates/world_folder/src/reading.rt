@@ -1,4 +1,5 @@
-//! The files of a folder as readers see them: opened only to be read, and read as far as their formats go.
+//! The files of a folder as readers see them: opened only to be read, and read as far as
+//! their formats go.
 ghost use Rattle.std.specs.Prelude.{◌≡◌, Ok, IsTrue, IfOk, IfErr, OnErr, IfSome, IsErr, IsErrAnd};
 ghost use Rattle.world_folder.specs.Fault.{AreRead};
 ghost use Rattle.world_folder.specs.Ending.{IsFault, ReportsOfFirst};
@@ -16,14 +17,15 @@ use std::alloc::Global;
 use std::io;
 use world_actions::Refusal;
 
-/// The bytes of each file of a folder that its format reads, or why it can't be read. Each is opened for reading only, and
-/// nothing is locked.
+/// The bytes of each file of a folder that its format reads, or why it can't be read. Each is
+/// opened for reading only, and nothing is locked.
 pub fn read_folder<F: Folder>(
     alloc: Global,
     folder: &mut F,
 ) -> FourFiles<Named<io::Result<Vec<u8>>>>
     ensures named { AreNamed result }
-    ensures read { IsTrue F.honest → IsTrue F.File.honest → AreReadIn result (F.history folder.old) (F.history folder.new) }
+    ensures read { IsTrue F.honest → IsTrue F.File.honest
+        → AreReadIn result (F.history folder.old) (F.history folder.new) }
 {
     FourFiles {
         image_a: read_named(alloc, folder, WorldFile::ImageA),
@@ -39,7 +41,8 @@ fn read_named<F: Folder>(
     file: WorldFile,
 ) -> Named<io::Result<Vec<u8>>>
     ensures named { result.file ≡ file }
-    ensures read { IsTrue F.honest → IsTrue F.File.honest → IsReadIn file result.value (F.history folder.old) (F.history folder.new) }
+    ensures read { IsTrue F.honest → IsTrue F.File.honest
+        → IsReadIn file result.value (F.history folder.old) (F.history folder.new) }
 {
     Named {
         file,
@@ -48,7 +51,8 @@ fn read_named<F: Folder>(
 }
 
 fn read_file<F: Folder>(alloc: Global, folder: &mut F, file: WorldFile) -> io::Result<Vec<u8>>
-    ensures { IsTrue F.honest → IsTrue F.File.honest → IsReadIn file result (F.history folder.old) (F.history folder.new) }
+    ensures { IsTrue F.honest → IsTrue F.File.honest
+        → IsReadIn file result (F.history folder.old) (F.history folder.new) }
 {
     let mut disk = folder.open_to_read(file, Reading::Synced)?;
     let bytes = read_whole(alloc, file, &mut disk);
@@ -57,7 +61,8 @@ fn read_file<F: Folder>(alloc: Global, folder: &mut F, file: WorldFile) -> io::R
 
 /// The bytes of a file that its format reads.
 pub fn read_whole<D: Disk>(alloc: Global, file: WorldFile, disk: &mut D) -> Result<Vec<u8>, Refusal>
-    ensures read { IsTrue D.honest → IfOk result (λ bytes. IsFileRead file (D.content disk.old) bytes.items) }
+    ensures read { IsTrue D.honest
+        → IfOk result (λ bytes. IsFileRead file (D.content disk.old) bytes.items) }
     ensures kept { IsTrue D.honest → D.content disk.new ≡ D.content disk.old }
 {
     match file {
@@ -70,7 +75,9 @@ pub fn read_whole<D: Disk>(alloc: Global, file: WorldFile, disk: &mut D) -> Resu
 pub fn answered<D: WorldDisk, T>(disk: &mut D, answer: Result<T, Refusal>) -> io::Result<T>
     ensures ok { IfOk answer (λ value. (result ≡ Ok value) × (disk.new ≡ disk.old)) }
     ensures fails { OnErr answer (IsErr result) }
-    ensures reason { IsTrue D.honest → OnErr answer (IfSome (D.failure disk.old) (λ error. IsErrAnd result (λ why. why ≡ error))) }
+    ensures reason { IsTrue D.honest
+        → OnErr answer
+        (IfSome (D.failure disk.old) (λ error. IsErrAnd result (λ why. why ≡ error))) }
 {
     match answer {
         Ok(value) => Ok(value),

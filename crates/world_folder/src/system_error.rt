@@ -7,11 +7,13 @@ use std::fmt;
 use std::io::{self, ErrorKind};
 use world_actions::Refusal;
 
-/// The reason of an error of the system, in words. A write that wrote a part of its bytes names both its causes.
+/// The reason of an error of the system, in words. A write that wrote a part of its bytes names
+/// both its causes.
 #[derive(Clone, Copy)]
 pub struct Reason(pub io::Error);
 
-/// The causes of a short write. The system would say which one at a further write, and may end the program by a signal.
+/// The causes of a short write. The system would say which one at a further write, and may end the
+/// program by a signal.
 const SHORT_WRITE: &str = "the disk is full, or the file has reached a limit on its size";
 
 impl fmt::Display for Reason {

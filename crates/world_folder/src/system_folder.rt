@@ -41,7 +41,8 @@ impl<'a, R: Files<File = File> + AllocGlobal> SystemFolder<'a, R> {
         Path::new(self.path).join(self.rt.alloc(), file.name())
     }
 
-    // Opens a file only to read it. A file of another kind isn't opened: to open a pipe waits for its writer.
+    // Opens a file only to read it. A file of another kind isn't opened: to open a pipe
+    // waits for its writer.
     fn open_plain(&self, file: WorldFile) -> io::Result<File> {
         let path = self.path_of(file)?;
         if !fs::metadata(self.rt, path.as_path())?.is_file() {
@@ -113,7 +114,8 @@ impl<R: Files<File = File> + Clock + Print + Eprint + AllocGlobal> Folder for Sy
         File::open(self.rt, self.path)?.sync_all()
     }
 
-    // It does nothing if a file system is mounted there, which needs no name, or if this user can't read the folder above it.
+    // It does nothing if a file system is mounted there, which needs no name, or if this user can't
+    // read the folder above it.
     fn sync_own_name(&mut self) -> io::Result<()> {
         let above = Path::new(self.path).join(self.rt.alloc(), ABOVE)?;
         let device = fs::metadata(self.rt, above.as_path())?.dev();

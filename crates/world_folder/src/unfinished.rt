@@ -42,7 +42,8 @@ impl MadeFiles {
     ghost use Rattle.world_folder.specs.Completing.{with_made};
 
     pub fn none() -> Self
-        ensures { result ≡ record { image_a = false; image_b = false; log_a = false; log_b = false } }
+        ensures { result
+            ≡ record { image_a = false; image_b = false; log_a = false; log_b = false } }
     {
         MadeFiles {
             image_a: false,

@@ -30,19 +30,24 @@ pub struct Whole<C: Capture> {
     pub doubtful: Option<Doubtful>,
 }
 
-/// Recovers the world in the files, as `recover_world` does, unless ticks that were answered are in none of them. The files
-/// are only read.
+/// Recovers the world in the files, as `recover_world` does, unless ticks that were answered are in
+/// none of them. The files are only read.
 pub fn recover_whole<C: Capture + Drop, D: Disk>(
     alloc: Global,
     files: &mut FourFiles<D>,
 ) -> Result<Whole<C>, NotRecovered>
-    ensures kept { IsTrue D.honest → EachFile files.old files.new (KeepsFile D.content D.may_leave) }
-    ensures ahead { IfOk result (λ found. IsAhead C.content D.content D.honest found.begun files.new) }
+    ensures kept { IsTrue D.honest
+        → EachFile files.old files.new (KeepsFile D.content D.may_leave) }
+    ensures ahead { IfOk result (λ found.
+        IsAhead C.content D.content D.honest found.begun files.new) }
     ensures read { IsTrue D.honest → IfOk result (λ found.
-        IsRead C.content D.content D.may_leave files.old found.begun.engine found.begun.from files.new) }
+        IsRead C.content D.content D.may_leave files.old found.begun.engine
+        found.begun.from files.new) }
     ensures whole { IsTrue D.honest
-        → IfOk result (λ found. NothingLost D.content found.begun.engine.ended found.begun.from files.old) }
-    ensures doubtful { IsTrue D.honest → IfOk result (λ found. DoubtfulIn D.content found.begun.engine.ended
+        → IfOk result (λ found.
+        NothingLost D.content found.begun.engine.ended found.begun.from files.old) }
+    ensures doubtful { IsTrue D.honest
+        → IfOk result (λ found. DoubtfulIn D.content found.begun.engine.ended
         files.old (option_map (λ doubtful. doubtful.0) found.doubtful)) }
     ensures refused { IfErr result (IsUnrecovered D.content D.honest files.old) }
 {

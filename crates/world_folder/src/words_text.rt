@@ -1,7 +1,10 @@
 //! A text that lists the words of a world.
-ghost use Rattle.std.specs.Prelude.{◌≡◌, ◌≢◌, ◌↔◌, ◌≤◌, ◌<◌, ◌+◌, ◌∷◌, ℕ, [], Err, decimal, length, slice_index, take, drop, IsTrue, IfOk, OnOk, IfSome, IfNone, Some};
+ghost use Rattle.std.specs.Prelude.{◌≡◌, ◌≢◌, ◌↔◌, ◌≤◌, ◌<◌, ◌+◌, ◌∷◌, ℕ, [], Err, decimal, length};
+ghost use Rattle.std.specs.Prelude.{slice_index, take, drop, IsTrue, IfOk, OnOk, IfSome, IfNone};
+ghost use Rattle.std.specs.Prelude.{Some};
 ghost use Rattle.world_actions.specs.World.{IsWord, IsWorld};
-ghost use Rattle.world_folder.specs.WordsText.{IsSeparator, HasNoSeparator, EndsPart, newlines, Lists, IsUnreadAt, HasTooMany};
+ghost use Rattle.world_folder.specs.WordsText.{IsSeparator, HasNoSeparator, EndsPart, newlines};
+ghost use Rattle.world_folder.specs.WordsText.{Lists, IsUnreadAt, HasTooMany};
 ghost use Rattle.world_folder.specs.Texts.{bad_words_text, bad_line_text};
 
 use line_grammar::read_number;
@@ -9,7 +12,8 @@ use std::alloc::Global;
 use std::fmt;
 use world_actions::{CELLS, LIMIT, Refusal};
 
-/// More bytes than the longest text of a world has: a word has 18 digits at most, and a separator after them.
+/// More bytes than the longest text of a world has: a word has 18 digits at most, and a
+/// separator after them.
 pub const TEXT_BYTES: usize = 20 * CELLS as usize;
 
 /// Why a text doesn't list the words of a world.
@@ -69,15 +73,16 @@ impl fmt::Display for BadLine {
     }
 }
 
-/// The words of a world as a text lists them. Only `Listed::read` gives them, so a world is made of no others.
+/// The words of a world as a text lists them. Only `Listed::read` gives them, so a world is
+/// made of no others.
 #[derive(Debug, Drop)]
 pub struct Listed {
     words: Vec<u64>,
 }
 
 impl Listed {
-    /// Reads the words of a world from a text. Each word is in decimal, with a space or a newline after it, which the last
-    /// one may lack.
+    /// Reads the words of a world from a text. Each word is in decimal, with a space or a newline
+    /// after it, which the last one may lack.
     pub fn read(alloc: Global, text: &[u8]) -> Result<Self, BadWords>
         ensures listed { IfOk result (λ listed. Lists listed.words.items text.now) }
         ensures world { IfOk result (λ listed. IsWorld listed.words.items) }

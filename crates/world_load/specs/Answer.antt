@@ -1,5 +1,6 @@
 -- The answers of a server to the batches of a connection.
-use Rattle.std.specs.Prelude.{◌≡◌, ℕ, zero, suc, ◌≤◌, ◌<◌, List, [], ◌∷◌, ◌++◌, length, All, codes, decimal}
+use Rattle.std.specs.Prelude.{◌≡◌, ℕ, zero, suc, ◌≤◌, ◌<◌, List, [], ◌∷◌, ◌++◌, length, All, codes}
+use Rattle.std.specs.Prelude.{decimal}
 use Rattle.std.specs.List.{flat_map, AllPairs}
 
 -- the answer of this tick, with what follows its number
@@ -20,7 +21,8 @@ pub record Checking : Type 0 where
   pub end : List ℕ
   pub last : ℕ
 
--- the bytes are so many answers with this after their numbers, each of a later tick than the one before, none past the last one
+-- the bytes are so many answers with this after their numbers, each of a later tick than the one
+-- before, none past the last one
 pub record AreAnswersUpTo (last : ℕ) (end : List ℕ) (count : ℕ) (bytes : List ℕ) : Type 0 where
   pub ticks : List ℕ
   pub as_many : length ticks ≡ count

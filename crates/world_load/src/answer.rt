@@ -29,7 +29,8 @@ pub fn tick_of(answer: &[u8], end: &[u8]) -> Option<u64>
 
 /// Why a batch of sets is refused as a whole, if the answer says so.
 pub fn refusal_of(answer: &[u8]) -> Option<Refusal>
-    ensures { IfSome result (λ refusal. answer.now ≡ codes "fault " ++ (decimal (code_of refusal) ++ (10 ∷ []))) }
+    ensures { IfSome result (λ refusal. answer.now
+        ≡ codes "fault " ++ (decimal (code_of refusal) ++ (10 ∷ []))) }
 {
     match number_between(answer, b"fault ", b"\n")? {
         6 => Some(Refusal::SegmentFull),
@@ -42,7 +43,8 @@ pub fn refusal_of(answer: &[u8]) -> Option<Refusal>
 
 // The number in a text, between what is before it and what is after it.
 fn number_between(text: &[u8], front: &[u8], end: &[u8]) -> Option<u64>
-    ensures { IsReading (λ number. front.now ++ (decimal number ++ end.now)) (λ number. number < 2 ^ 64) text.now result }
+    ensures { IsReading (λ number. front.now ++ (decimal number ++ end.now))
+        (λ number. number < 2 ^ 64) text.now result }
 {
     let rest = after(text, front)?;
     let digits = rest.strip_suffix(end)?;

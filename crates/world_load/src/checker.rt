@@ -38,7 +38,8 @@ impl Checker {
         self.last
     }
 
-    /// True if the next batch may be answered so: all its lines are accepted, and its tick is after the last one.
+    /// True if the next batch may be answered so: all its lines are accepted, and its tick is
+    /// after the last one.
     pub fn hear(&mut self, answer: &[u8]) -> bool
         ensures right { IsTrue result → (answer.now ≡ answer_with self.old.end self.new.last)
             × (self.old.last < self.new.last) × (self.new.end ≡ self.old.end) }

@@ -16,8 +16,8 @@ use world_actions::LIMIT;
 /// The most batches of a connection.
 const MOST_BATCHES: u64 = 1 << 40;
 
-/// Sends batch after batch over a connection, each once the last one is answered. It returns how many nanoseconds each
-/// waited. It ends early if another client failed.
+/// Sends batch after batch over a connection, each once the last one is answered. It returns how
+/// many nanoseconds each waited. It ends early if another client failed.
 pub fn play<R: Clock, A: BufRead, W: Write>(
     rt: &R,
     alloc: Global,
@@ -27,7 +27,8 @@ pub fn play<R: Clock, A: BufRead, W: Write>(
     seed: u64,
     progress: &Progress,
 ) -> Result<Vec<u64>, Failure>
-    ensures { IfOk result (λ latencies. (bytes : List ℕ) × Consumes (A.remaining answers.old) (A.remaining answers.new) bytes
+    ensures { IfOk result (λ latencies. (bytes : List ℕ)
+        × Consumes (A.remaining answers.old) (A.remaining answers.new) bytes
         × AreAnswers (all_accepted load.now.lines) (length latencies.items) bytes) }
 {
     let mut client = Client::new(alloc, load.lines, seed)?;
@@ -83,7 +84,8 @@ impl Client {
     ) -> Result<(), Failure>
         requires none { latencies.old.items ≡ [] }
         requires fresh { self.old.last ≡ 0 }
-        ensures { OnOk result ((bytes : List ℕ) × Consumes (A.remaining answers.old) (A.remaining answers.new) bytes
+        ensures { OnOk result
+            ((bytes : List ℕ) × Consumes (A.remaining answers.old) (A.remaining answers.new) bytes
             × AreAnswersUpTo self.new.last self.old.end (length latencies.new.items) bytes) }
     {
         let begin = Instant::now(rt)?;

@@ -28,8 +28,8 @@ pub struct Seen {
 
 type Handle = JoinHandle<Result<Vec<u64>, Failure>>;
 
-/// Lets the clients of a load play against the server at an address, each in its own thread. Meanwhile it prints on
-/// standard error, each second, how far they are.
+/// Lets the clients of a load play against the server at an address, each in its own thread.
+/// Meanwhile it prints on standard error, each second, how far they are.
 pub fn run_crowd<
     R: Net<Stream = TcpStream> + Threads + Wait + Clock + Eprint + Copy + Send + 'static,
 >(rt: &R, alloc: Global, address: Address<'_>, load: Load) -> Result<Seen, Failure> {
@@ -163,7 +163,8 @@ fn both(
     all: Result<Vec<u64>, Failure>,
     more: Result<Vec<u64>, Failure>,
 ) -> Result<Vec<u64>, Failure>
-    ensures joined { IfOk result (λ list. IfOk all (λ these. IfOk more (λ those. list.items ≡ these.items ++ those.items))) }
+    ensures joined { IfOk result (λ list.
+        IfOk all (λ these. IfOk more (λ those. list.items ≡ these.items ++ those.items))) }
     ensures fails { (IsErr all ⊎ IsErr more) → IsErr result }
 {
     let mut all = all?;

@@ -1,7 +1,9 @@
-//! The program `world_load`: clients that load a serving `worldd`, each by one batch after another. It checks each answer,
-//! and prints ticks and actions a second, and how long batches waited for their answers.
+//! The program `world_load`: clients that load a serving `worldd`, each by one batch after
+//! another. It checks each answer, and prints ticks and actions a second, and how long batches
+//! waited for their answers.
 //!
-//! The status is 0 if each answer was right, 1 after a fault or a wrong answer, and 2 for a wrong command line.
+//! The status is 0 if each answer was right, 1 after a fault or a wrong answer, and 2 for a
+//! wrong command line.
 #![tactic(auto)]
 
 mod address;

@@ -93,7 +93,8 @@ fn report_chart<R: Print>(rt: &R, latencies: &Latencies) -> Result<(), Failure> 
     Ok(())
 }
 
-// How many latencies are up to each bound and above the one before, and how many are above the last one.
+// How many latencies are up to each bound and above the one before, and how many are
+// above the last one.
 fn rows_of(latencies: &Latencies) -> [usize; BOUNDS.len() + 1] {
     let mut rows = [0; BOUNDS.len() + 1];
     let mut before = 0;

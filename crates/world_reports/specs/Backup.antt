@@ -22,21 +22,27 @@ with_tries tries acts = if nat_lt 1 tries then Warned (begun_text tries) ∷ act
 
 module _ {D : Type 0} (content : D → List ℕ) (leaves : D → List ℕ → Type 0) where
   -- a file was made under its name, and has these bytes, which are durable
-  pub record IsWritten (file : WorldFile) (bytes : List ℕ) (disk : D) (before after : List Act) : Type 0 where
+  pub record IsWritten (file : WorldFile) (bytes : List ℕ) (disk : D)
+      (before after : List Act) : Type 0 where
     pub entry : Entry
     pub made : after ≡ Made file entry ∷ before
     pub has : content disk ≡ bytes
     pub durable : Only (content disk) (leaves disk)
 
   -- both images were written, the newest one last
-  abbrev pub AreImagesWritten : (newest : Slot) → Files → (image_a image_b : D) → (before after : List Act) → Type 0
+  abbrev pub AreImagesWritten : (newest : Slot) → Files → (image_a image_b : D)
+      → (before after : List Act) → Type 0
   AreImagesWritten A files image_a image_b before after =
-      (acts : List Act) × IsWritten ImageB files.image_b.items image_b before acts × IsWritten ImageA files.image_a.items image_a acts after
+      (acts : List Act) × IsWritten ImageB files.image_b.items image_b before acts
+      × IsWritten ImageA files.image_a.items image_a acts after
   AreImagesWritten B files image_a image_b before after =
-      (acts : List Act) × IsWritten ImageA files.image_a.items image_a before acts × IsWritten ImageB files.image_b.items image_b acts after
+      (acts : List Act) × IsWritten ImageA files.image_a.items image_a before acts
+      × IsWritten ImageB files.image_b.items image_b acts after
 
-  -- four files were written, the newest image last, and then their names and the folder's own were made durable
-  pub record AreWritten (newest : Slot) (files : Files) (made : FourFiles D) (before after : List Act) : Type 0 where
+  -- four files were written, the newest image last, and then their names and the folder's own
+  -- were made durable
+  pub record AreWritten (newest : Slot) (files : Files) (made : FourFiles D)
+      (before after : List Act) : Type 0 where
     pub with_log_a : List Act
     pub with_log_b : List Act
     pub with_images : List Act
@@ -45,9 +51,10 @@ module _ {D : Type 0} (content : D → List ℕ) (leaves : D → List ℕ → Ty
     pub images : AreImagesWritten newest files made.image_a made.image_b with_log_b with_images
     pub named : after ≡ synced with_images
 
-  -- A copy of a world was made in an empty folder, and durable. Its files were read again, and hold the world that was read. Only
-  -- then it was printed.
-  pub record IsBackedUp (made : FourFiles D) (source_before source_after before after : List Act) : Type 0 where
+  -- A copy of a world was made in an empty folder, and durable. Its files were read again, and hold
+  -- the world that was read. Only then it was printed.
+  pub record IsBackedUp (made : FourFiles D)
+      (source_before source_after before after : List Act) : Type 0 where
     pub copied : Files
     pub lengths : FourFiles ℕ
     pub tries : ℕ
@@ -62,4 +69,5 @@ module _ {D : Type 0} (content : D → List ℕ) (leaves : D → List ℕ → Ty
     pub is_room : room ≡ FoundEmpty ∷ before
     pub are_written : AreWritten read.slot copied made room written
     pub is_verified : IsVerified read reported written verified
-    pub printed : after ≡ Printed (backed_up_text reported.tick reported.from) ∷ with_tries tries verified
+    pub printed : after
+        ≡ Printed (backed_up_text reported.tick reported.from) ∷ with_tries tries verified

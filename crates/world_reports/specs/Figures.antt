@@ -14,14 +14,16 @@ abbrev pub reported_segment : LogReport → Option (ℕ × ℕ)
 reported_segment (Open format base groups ticks) = Some (base, ticks)
 reported_segment log = None
 
--- of two segments the open one with the greater base, log.b if both have it, and how many ticks it has
+-- of two segments the open one with the greater base, log.b if both have it, and how
+-- many ticks it has
 abbrev pub current_segment : Option (ℕ × ℕ) → Option (ℕ × ℕ) → Option (Slot × ℕ)
 current_segment (Some (s, m)) (Some (t, n)) = if nat_lt t s then Some (A, m) else Some (B, n)
 current_segment (Some (s, m)) None = Some (A, m)
 current_segment None (Some (t, n)) = Some (B, n)
 current_segment None None = None
 
--- these are the figures of four files: those of the world that recovery finds, and the segment that the log continues in
+-- these are the figures of four files: those of the world that recovery finds, and the segment that
+-- the log continues in
 pub record AreFigures (files : Files) (figures : FiguresValue) : Type 0 where
   pub found : Recovered
   pub stands : Stands files found

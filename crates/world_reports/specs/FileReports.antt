@@ -4,7 +4,8 @@ use Rattle.file_format.specs.declared.format.Format.{Format}
 use Rattle.file_format.specs.declared.format.Format.TheVariants.{First, Second}
 use Rattle.file_format.specs.Format.{format_in}
 use Rattle.image_files.specs.Image.{image_of, Closed, Bad, Open}
-use Rattle.action_log.specs.Segment.{Tick, ClosedSegment, MalformedSegment, IsSegment, IsOpenSegment}
+use Rattle.action_log.specs.Segment.{Tick, ClosedSegment, MalformedSegment, IsSegment}
+use Rattle.action_log.specs.Segment.{IsOpenSegment}
 use Rattle.world_reports.specs.declared.file_reports.ImageReport.{ImageReport}
 use Rattle.world_reports.specs.declared.file_reports.ImageReport.TheVariants as image
 use Rattle.world_reports.specs.declared.file_reports.LogReport.{LogReport}
@@ -15,14 +16,17 @@ abbrev pub format_number : Format → ℕ
 format_number First = 1
 format_number Second = 2
 
--- the report on an image file's bytes: of an open image the format by its mark, the number of cells, and its tick
+-- the report on an image file's bytes: of an open image the format by its mark, the number of
+-- cells, and its tick
 abbrev pub IsImageReport : List ℕ → ImageReport → Type 0
 IsImageReport bytes image.Closed = image_of bytes ≡ Closed
 IsImageReport bytes image.Damaged = image_of bytes ≡ Bad
 IsImageReport bytes (image.Open format cells tick) =
-    (format_in bytes ≡ Some format) × (words : List ℕ) × (image_of bytes ≡ Open tick words) × (cells ≡ length words)
+    (format_in bytes ≡ Some format) × (words : List ℕ)
+    × (image_of bytes ≡ Open tick words) × (cells ≡ length words)
 
--- the report on a log file's bytes: of an open segment its format, its base, and the numbers of groups and ticks
+-- the report on a log file's bytes: of an open segment its format, its base, and the numbers of
+-- groups and ticks
 abbrev pub IsLogReport : List ℕ → LogReport → Type 0
 IsLogReport bytes log.Closed = IsSegment bytes ClosedSegment
 IsLogReport bytes log.Damaged = IsSegment bytes MalformedSegment

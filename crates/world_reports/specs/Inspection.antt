@@ -1,5 +1,6 @@
 -- The report on the files of a folder.
-use Rattle.std.specs.Prelude.{◌≡◌, ℕ, Bool, true, false, List, [], ◌∷◌, ◌++◌, codes, decimal, length, Option, Some, None, Result, Ok, Err, Vec}
+use Rattle.std.specs.Prelude.{◌≡◌, ℕ, Bool, true, false, List, [], ◌∷◌, ◌++◌, codes, decimal}
+use Rattle.std.specs.Prelude.{length, Option, Some, None, Result, Ok, Err, Vec}
 use Rattle.std.specs.List.{flat_map}
 use Rattle.std.specs.declared.alloc.Global.{Global}
 use Rattle.std.specs.declared.io.Error.{Error}
@@ -21,12 +22,15 @@ use Rattle.world_folder.specs.declared.world_file.WorldFile.TheVariants.{ImageA,
 
 -- a file's report, and its length
 abbrev pub reported_line : (name reported : List ℕ) → (length : ℕ) → Option (List ℕ)
-reported_line name reported length = Some (name ++ codes ": " ++ reported ++ codes ", " ++ counted_text length (codes "byte"))
+reported_line name reported length =
+    Some (name ++ codes ": " ++ reported ++ codes ", " ++ counted_text length (codes "byte"))
 
 -- the text of the line on a file, which isn't stated if it has an error of the system
 abbrev pub reported_text : WorldFile → FileReport → (length : ℕ) → Option (List ℕ)
-reported_text file (Image reported) length = reported_line (name_of file) (image_reported_text reported) length
-reported_text file (Log reported) length = reported_line (name_of file) (log_reported_text reported) length
+reported_text file (Image reported) length =
+    reported_line (name_of file) (image_reported_text reported) length
+reported_text file (Log reported) length =
+    reported_line (name_of file) (log_reported_text reported) length
 reported_text file (Unreadable error) length = None
 
 abbrev pub file_line_text : FileLine → Option (List ℕ)
@@ -47,7 +51,9 @@ length_or (Some known) bytes = known
 
 -- the line on a file that was read so: how its bytes read, or why it can't be read
 abbrev pub IsLineOf : WorldFile → Result (Vec ℕ Global) Error → Option ℕ → FileLine → Type 0
-IsLineOf file (Ok bytes) known line = (line.file ≡ file) × IsFileReport file bytes.items line.reported × (line.length ≡ length_or known bytes.items)
+IsLineOf file (Ok bytes) known line =
+    (line.file ≡ file) × IsFileReport file bytes.items line.reported
+    × (line.length ≡ length_or known bytes.items)
 IsLineOf file (Err error) known line = (line.file ≡ file) × (line.reported ≡ Unreadable error)
 
 abbrev pub IsFileLine : Named (Result (Vec ℕ Global) Error) → Option ℕ → FileLine → Type 0
@@ -81,7 +87,8 @@ abbrev pub words_printed : (with_words : Bool) → (words : List ℕ) → List A
 words_printed true words acts = Printed (words_text words) ∷ acts
 words_printed false words acts = acts
 
--- The files were seen, and the line on each was printed. Then the world was printed that recovery finds in them.
+-- The files were seen, and the line on each was printed. Then the world was printed that
+-- recovery finds in them.
 pub record IsInspected (with_words : Bool) (before after : List Act) : Type 0 where
   pub seen : Seen
   pub looked : List Act
@@ -92,4 +99,5 @@ pub record IsInspected (with_words : Bool) (before after : List Act) : Type 0 wh
   pub files : AreFilesReported seen looked reported
   pub are_read : AreRead seen.files bytes
   pub stands : Stands bytes found
-  pub printed : after ≡ words_printed with_words found.words.items (Printed (recovered_text found.tick found.from found.slot) ∷ reported)
+  pub printed : after ≡ words_printed with_words found.words.items
+      (Printed (recovered_text found.tick found.from found.slot) ∷ reported)

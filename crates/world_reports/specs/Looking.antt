@@ -47,4 +47,6 @@ pub record IsCopySeen (seen : Seen) (before after : List Act) : Type 0 where
 
 -- a copy was seen; or, once none could be taken, each file by itself
 abbrev pub IsSeen : Seen → (before after : List Act) → Type 0
-IsSeen seen before after = IsCopySeen seen before after ⊎ ((not_copied : List Act) × AreReadAndMeasured seen not_copied after)
+IsSeen seen before after =
+    IsCopySeen seen before after
+    ⊎ ((not_copied : List Act) × AreReadAndMeasured seen not_copied after)

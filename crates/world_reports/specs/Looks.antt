@@ -11,17 +11,21 @@ use Rattle.world_reports.specs.declared.looks.After.{After}
 
 -- what four files with these bytes say
 abbrev pub look_of_files : Files → Look
-look_of_files files = look_of files.image_a.items files.image_b.items files.log_a.items files.log_b.items
+look_of_files files =
+    look_of files.image_a.items files.image_b.items files.log_a.items files.log_b.items
 
 -- the newest image by these heads
 abbrev pub IsNewest : (heads : Files) → Slot → Type 0
-IsNewest heads newest = IsNewestIn heads.image_a.items heads.image_b.items heads.log_a.items heads.log_b.items newest
+IsNewest heads newest =
+    IsNewestIn heads.image_a.items heads.image_b.items heads.log_a.items heads.log_b.items newest
 
--- The heads before and after the bytes say what the bytes say, and no segment became longer. If both images are copied, neither was
--- written anew.
+-- The heads before and after the bytes say what the bytes say, and no segment became longer. If
+-- both images are copied, neither was written anew.
 pub record AreLookedAlike (within : Within) (after : After) : Type 0 where
   pub before_is : look_of_files within.before.heads ≡ look_of_files within.files
   pub after_is : look_of_files after.heads ≡ look_of_files within.files
   pub log_a : IsReadWhole within.files.log_a.items within.lengths.log_a
   pub log_b : IsReadWhole within.files.log_b.items within.lengths.log_b
-  pub images : within.images ≡ Both → (within.before.heads.image_a.items ≡ after.heads.image_a.items) × (within.before.heads.image_b.items ≡ after.heads.image_b.items)
+  pub images : within.images ≡ Both
+      → (within.before.heads.image_a.items ≡ after.heads.image_a.items)
+      × (within.before.heads.image_b.items ≡ after.heads.image_b.items)

@@ -14,7 +14,8 @@ abbrev pub with_doubt : Option Slot → List Act → List Act
 with_doubt None acts = acts
 with_doubt (Some slot) acts = Warned (doubtful_line slot) ∷ acts
 
--- The files were seen, and then the world was printed that recovery finds in them. A log that may have been lost was named.
+-- The files were seen, and then the world was printed that recovery finds in them. A log that may
+-- have been lost was named.
 pub record IsWorldReported (before after : List Act) : Type 0 where
   pub seen : Seen
   pub acts : List Act
@@ -24,4 +25,5 @@ pub record IsWorldReported (before after : List Act) : Type 0 where
   pub are_read : AreRead seen.files bytes
   pub stands : Stands bytes found
   pub whole : IsWhole bytes found
-  pub printed : after ≡ Printed (recovered_line found.tick found.from) ∷ with_doubt (doubtful_log found.tick bytes.log_a.items bytes.log_b.items) acts
+  pub printed : after ≡ Printed (recovered_line found.tick found.from)
+      ∷ with_doubt (doubtful_log found.tick bytes.log_a.items bytes.log_b.items) acts

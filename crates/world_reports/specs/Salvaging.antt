@@ -1,5 +1,6 @@
 -- A world that is made of what can be read of damaged files.
-use Rattle.std.specs.Prelude.{◌≡◌, ◌⊎◌, ℕ, List, [], ◌∷◌, ◌++◌, codes, Some, pos, Result, Ok, Err, Vec}
+use Rattle.std.specs.Prelude.{◌≡◌, ◌⊎◌, ℕ, List, [], ◌∷◌, ◌++◌, codes, Some, pos, Result, Ok, Err}
+use Rattle.std.specs.Prelude.{Vec}
 use Rattle.std.specs.IoError.{error_kind, raw_os_error}
 use Rattle.std.specs.declared.alloc.Global.{Global}
 use Rattle.std.specs.declared.io.Error.{Error}
@@ -37,7 +38,8 @@ NamesLost (Ok read) before after = after ≡ before
 NamesLost (Err error) before after = (text : List ℕ) × (after ≡ Printed text ∷ before)
 
 -- the bytes of four files were taken, image.a first, and a line was printed for each lost one
-pub record AreTakenOf (read : FourFiles (Named (Result (Vec ℕ Global) Error))) (files : Files) (before after : List Act) : Type 0 where
+pub record AreTakenOf (read : FourFiles (Named (Result (Vec ℕ Global) Error))) (files : Files)
+    (before after : List Act) : Type 0 where
   pub with_image_a : List Act
   pub with_image_b : List Act
   pub with_log_a : List Act
@@ -59,12 +61,16 @@ parts_printed salvaged acts =
 pub record IsSalvagedOf (files : Files) (salvaged : Salvaged) : Type 0 where
   pub parts : IsSalvaged files.image_a.items files.image_b.items files.log_a.items files.log_b.items
       salvaged.image_a salvaged.image_b salvaged.log_a salvaged.log_b
-  pub recovers : Recovers (kept_image salvaged.image_a files.image_a.items) (kept_image salvaged.image_b files.image_b.items)
-      (kept_log salvaged.log_a files.log_a.items) (kept_log salvaged.log_b files.log_b.items) (Ok (recovery_of_answer salvaged.found))
+  pub recovers : Recovers (kept_image salvaged.image_a files.image_a.items)
+      (kept_image salvaged.image_b files.image_b.items)
+      (kept_log salvaged.log_a files.log_a.items) (kept_log salvaged.log_b files.log_b.items)
+      (Ok (recovery_of_answer salvaged.found))
 
--- The files of a folder were read, each by its own name. A world was made of them in an empty folder, durable, its image last. Its
--- files were read again, and recovery finds in them the world that was salvaged. Only then it was printed.
-pub record IsSalvagedInto {D : Type 0} (content : D → List ℕ) (leaves : D → List ℕ → Type 0) (made : FourFiles D) (source_before source_after before after : List Act) : Type 0 where
+-- The files of a folder were read, each by its own name. A world was made of them in an empty
+-- folder, durable, its image last. Its files were read again, and recovery finds in them the world
+-- that was salvaged. Only then it was printed.
+pub record IsSalvagedInto {D : Type 0} (content : D → List ℕ) (leaves : D → List ℕ → Type 0)
+    (made : FourFiles D) (source_before source_after before after : List Act) : Type 0 where
   pub read : FourFiles (Named (Result (Vec ℕ Global) Error))
   pub files : Files
   pub salvaged : Salvaged

@@ -12,7 +12,8 @@ use Rattle.world_folder.specs.declared.world_file.WorldFile.TheVariants.{ImageA,
 
 -- each of three locks was asked for by the name of its own file, that of image.a last
 abbrev pub asked : AskedLocks → List Act → List Act
-asked locks acts = Asked ImageA locks.image_a ∷ Asked LogA locks.log_a ∷ Asked ImageB locks.image_b ∷ acts
+asked locks acts =
+    Asked ImageA locks.image_a ∷ Asked LogA locks.log_a ∷ Asked ImageB locks.image_b ∷ acts
 
 -- a server takes the lock of a part that goes down
 abbrev pub part_reported : LockState → PartReport
@@ -26,9 +27,11 @@ running_reported lock.Held log images = Running log images
 running_reported lock.Free log images = Missing
 running_reported lock.Unknown log images = Unknown
 
--- image.a is locked while a server runs, log.a once its log is down, and image.b once its images are
+-- image.a is locked while a server runs, log.a once its log is down, and image.b once
+-- its images are
 abbrev pub server_reported : AskedLocks → ServerReport
-server_reported locks = running_reported locks.image_a (part_reported locks.log_a) (part_reported locks.image_b)
+server_reported locks =
+    running_reported locks.image_a (part_reported locks.log_a) (part_reported locks.image_b)
 
 -- the report says what the locks say that were asked for
 pub record IsServerReport (reported : ServerReport) (before after : List Act) : Type 0 where

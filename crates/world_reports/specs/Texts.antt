@@ -1,5 +1,6 @@
 -- The texts of reports and figures, as people read them.
-use Rattle.std.specs.Prelude.{ℕ, ◌+◌, ◌-◌, ◌^◌, min, List, [], ◌++◌, ◌==◌, nat_lt, if◌then◌else◌, codes, decimal, Option, Some, None}
+use Rattle.std.specs.Prelude.{ℕ, ◌+◌, ◌-◌, ◌^◌, min, List, [], ◌++◌, ◌==◌, nat_lt, if◌then◌else◌}
+use Rattle.std.specs.Prelude.{codes, decimal, Option, Some, None}
 use Rattle.disk_model.specs.declared.four_files.FourFiles.{FourFiles}
 use Rattle.file_format.specs.declared.slot.Slot.{Slot}
 use Rattle.action_log.specs.declared.format.TheConstants.{SEGMENT_TICKS}
@@ -22,7 +23,8 @@ use Rattle.world_folder.specs.Texts.{world_text, recovered_text, log_name}
 
 -- a count and its noun, which is in the plural unless the count is 1
 abbrev pub counted_text : (count : ℕ) → (noun : List ℕ) → List ℕ
-counted_text count noun = decimal count ++ codes " " ++ noun ++ (if count == 1 then [] else codes "s")
+counted_text count noun =
+    decimal count ++ codes " " ++ noun ++ (if count == 1 then [] else codes "s")
 
 -- ---- a world
 
@@ -43,37 +45,45 @@ abbrev pub image_reported_text : ImageReport → List ℕ
 image_reported_text image.Closed = codes "closed"
 image_reported_text image.Damaged = codes "damaged"
 image_reported_text (image.Open format cells tick) =
-    codes "open, format " ++ decimal (format_number format) ++ codes ", " ++ counted_text cells (codes "cell") ++ codes ", tick " ++ decimal tick
+    codes "open, format " ++ decimal (format_number format) ++ codes ", "
+    ++ counted_text cells (codes "cell") ++ codes ", tick " ++ decimal tick
 
 abbrev pub log_reported_text : LogReport → List ℕ
 log_reported_text log.Closed = codes "closed"
 log_reported_text log.Damaged = codes "damaged"
 log_reported_text (log.Open format base groups ticks) =
     codes "open, format " ++ decimal (format_number format) ++ codes ", base " ++ decimal base
-    ++ codes ", " ++ counted_text groups (codes "group") ++ codes ", " ++ counted_text ticks (codes "tick")
+    ++ codes ", " ++ counted_text groups (codes "group") ++ codes ", "
+    ++ counted_text ticks (codes "tick")
 
 -- ---- figures
 
 -- the segment that the log continues in, and how many ticks it has
 abbrev pub segment_text : Option (Slot × ℕ) → List ℕ
-segment_text (Some (slot, ticks)) = log_name slot ++ codes " has " ++ decimal ticks ++ codes " of " ++ decimal SEGMENT_TICKS
+segment_text (Some (slot, ticks)) =
+    log_name slot ++ codes " has " ++ decimal ticks ++ codes " of " ++ decimal SEGMENT_TICKS
 segment_text None = codes "no segment is open"
 
 abbrev pub figures_text : FiguresValue → List ℕ
 figures_text figures = recovered_text figures.tick figures.image figures.slot
-    ++ codes "\nlog: " ++ counted_text (figures.tick - figures.image) (codes "tick") ++ codes " after the image, " ++ segment_text figures.segment
+    ++ codes "\nlog: " ++ counted_text (figures.tick - figures.image) (codes "tick")
+    ++ codes " after the image, " ++ segment_text figures.segment
 
 -- how many bytes four files have together, as far as a number of 64 bits goes
 abbrev pub total_of : FourFiles ℕ → ℕ
-total_of lengths = min (lengths.image_a + lengths.image_b + lengths.log_a + lengths.log_b) (2 ^ 64 - 1)
+total_of lengths =
+    min (lengths.image_a + lengths.image_b + lengths.log_a + lengths.log_b) (2 ^ 64 - 1)
 
 -- how many bytes each of two files has
 abbrev pub pair_text : (a : List ℕ) → (bytes_of_a : ℕ) → (b : List ℕ) → (bytes_of_b : ℕ) → List ℕ
-pair_text a bytes_of_a b bytes_of_b = a ++ codes " " ++ decimal bytes_of_a ++ codes ", " ++ b ++ codes " " ++ decimal bytes_of_b
+pair_text a bytes_of_a b bytes_of_b =
+    a ++ codes " " ++ decimal bytes_of_a ++ codes ", " ++ b ++ codes " " ++ decimal bytes_of_b
 
 abbrev pub lengths_text : FourFiles ℕ → List ℕ
-lengths_text lengths = codes "bytes: " ++ pair_text IMAGE_A.now lengths.image_a IMAGE_B.now lengths.image_b
-    ++ codes ", " ++ pair_text LOG_A.now lengths.log_a LOG_B.now lengths.log_b ++ codes ", together " ++ decimal (total_of lengths)
+lengths_text lengths =
+    codes "bytes: " ++ pair_text IMAGE_A.now lengths.image_a IMAGE_B.now lengths.image_b
+    ++ codes ", " ++ pair_text LOG_A.now lengths.log_a LOG_B.now lengths.log_b
+    ++ codes ", together " ++ decimal (total_of lengths)
 
 -- ---- a server
 
@@ -83,7 +93,8 @@ part_text part.Down = codes "down"
 part_text part.Unknown = codes "unknown"
 
 abbrev pub server_text : ServerReport → List ℕ
-server_text (server.Running log images) = codes "server: running, log " ++ part_text log ++ codes ", images " ++ part_text images
+server_text (server.Running log images) =
+    codes "server: running, log " ++ part_text log ++ codes ", images " ++ part_text images
 server_text server.Missing = codes "server: none"
 server_text server.Unknown = codes "server: unknown"
 
@@ -104,4 +115,5 @@ abbrev pub log_part_text : LogPart → (to : ℕ) → List ℕ
 log_part_text log_part.Closed to = codes "closed"
 log_part_text log_part.Dropped to = codes "damaged, nothing is taken"
 log_part_text (log_part.Whole base ticks) to = codes "whole, " ++ run_text base ticks to
-log_part_text (log_part.Cut at base ticks) to = codes "damaged from byte " ++ decimal at ++ codes " on, " ++ run_text base ticks to
+log_part_text (log_part.Cut at base ticks) to =
+    codes "damaged from byte " ++ decimal at ++ codes " on, " ++ run_text base ticks to

@@ -8,6 +8,7 @@ use Rattle.world_reports.specs.declared.copying.Tried.TheVariants.{Copied, NoIma
 
 -- a copy that was taken is one of these files
 abbrev pub IsTriedOf : {D : Type 0} → (content : D → List ℕ) → Images → FourFiles D → Tried → Type 0
-IsTriedOf content images files (Copied alike) = IsCopyOf content images files alike.files alike.lengths
+IsTriedOf content images files (Copied alike) =
+    IsCopyOf content images files alike.files alike.lengths
 IsTriedOf content images files NoImage = Unit {0}
 IsTriedOf content images files Unsteady = Unit {0}

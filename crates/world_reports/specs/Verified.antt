@@ -15,7 +15,8 @@ abbrev pub IsSameWorld : (one other : Recovered) → Type 0
 IsSameWorld one other = (one.tick ≡ other.tick) × (one.words.items ≡ other.words.items)
 
 -- The four files of a folder were read, and recovery finds in them the world that was written.
-pub record IsVerified (written : Recovered) (reported : WorldReport) (before after : List Act) : Type 0 where
+pub record IsVerified (written : Recovered) (reported : WorldReport)
+    (before after : List Act) : Type 0 where
   pub read : FourFiles (Named (Result (Vec ℕ Global) Error))
   pub bytes : Files
   pub found : Recovered

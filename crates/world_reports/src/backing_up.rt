@@ -1,6 +1,7 @@
 ghost use Rattle.std.specs.Prelude.{◌≡◌, ◌∷◌, [], Some, IsTrue, IfOk, IfErr, OnOk};
 ghost use Rattle.disk_model.specs.Disk.{Only};
-ghost use Rattle.world_reports.specs.Backup.{IsBackedUp, AreWritten, AreImagesWritten, IsWritten, with_tries};
+ghost use Rattle.world_reports.specs.Backup.{IsBackedUp, AreWritten, AreImagesWritten, IsWritten};
+ghost use Rattle.world_reports.specs.Backup.{with_tries};
 ghost use Rattle.world_folder.specs.Ending.{IsFault, NamesFile};
 ghost use Rattle.world_folder.specs.History.{FoundEmpty};
 ghost use Rattle.world_reports.specs.Texts.{begun_text};
@@ -35,9 +36,9 @@ pub fn back_up<R: Files<File = File> + Clock + Print + Eprint + AllocGlobal>(
     }
 }
 
-/// Copies the world of a folder into an empty one, and prints which world the copy holds. A server may write the world
-/// meanwhile. The copy's image is written last, so a copy that was cut off holds no world. The copy has to recover to the world
-/// that was read. Its files are returned.
+/// Copies the world of a folder into an empty one, and prints which world the copy holds. A server
+/// may write the world meanwhile. The copy's image is written last, so a copy that was cut off
+/// holds no world. The copy has to recover to the world that was read. Its files are returned.
 pub fn copy_into<F: Folder, T: Folder>(
     alloc: Global,
     from: &mut F,
@@ -45,8 +46,10 @@ pub fn copy_into<F: Folder, T: Folder>(
     into: &mut T,
     to: &str,
 ) -> Result<FourFiles<T::File>, Ending>
-    ensures backed_up { IsTrue F.honest → IsTrue F.File.honest → IsTrue T.honest → IsTrue T.File.honest → IfOk result (λ files.
-        IsBackedUp T.File.content T.File.may_leave files (F.history from.old) (F.history from.new) (T.history into.old) (T.history into.new)) }
+    ensures backed_up { IsTrue F.honest → IsTrue F.File.honest → IsTrue T.honest
+        → IsTrue T.File.honest → IfOk result (λ files.
+        IsBackedUp T.File.content T.File.may_leave files (F.history from.old) (F.history from.new)
+        (T.history into.old) (T.history into.new)) }
     ensures fault { IfErr result IsFault }
 {
     look_for_room(alloc, into, to)?;
@@ -67,7 +70,8 @@ pub fn copy_into<F: Folder, T: Folder>(
 
 // Names how often a copy was begun, if it was begun anew.
 fn warn_of_tries<F: Folder>(into: &mut F, tries: u32) -> io::Result<()>
-    ensures { IsTrue F.honest → OnOk result (F.history into.new ≡ with_tries tries (F.history into.old)) }
+    ensures { IsTrue F.honest
+        → OnOk result (F.history into.new ≡ with_tries tries (F.history into.old)) }
 {
     if tries > 1 {
         into.warn(BegunAnew(tries))?;
@@ -77,7 +81,8 @@ fn warn_of_tries<F: Folder>(into: &mut F, tries: u32) -> io::Result<()>
 
 /// Refuses a folder that has a file.
 pub fn look_for_room<F: Folder>(alloc: Global, into: &mut F, to: &str) -> Result<(), Ending>
-    ensures empty { IsTrue F.honest → OnOk result (F.history into.new ≡ FoundEmpty ∷ F.history into.old) }
+    ensures empty { IsTrue F.honest
+        → OnOk result (F.history into.new ≡ FoundEmpty ∷ F.history into.old) }
     ensures fault { IfErr result IsFault }
 {
     let is_empty = into.is_empty();
@@ -97,7 +102,8 @@ fn filled(alloc: Global, to: &str) -> Ending
     }
 }
 
-/// Makes the files of a world, that of the newest image last, and syncs each of them and their names.
+/// Makes the files of a world, that of the newest image last, and syncs each of them
+/// and their names.
 pub fn write_files<F: Folder>(
     alloc: Global,
     into: &mut F,
@@ -106,7 +112,8 @@ pub fn write_files<F: Folder>(
     newest: Slot,
 ) -> Result<FourFiles<F::File>, Ending>
     ensures written { IsTrue F.honest → IsTrue F.File.honest → IfOk result (λ made.
-        AreWritten F.File.content F.File.may_leave newest files.now made (F.history into.old) (F.history into.new)) }
+        AreWritten F.File.content F.File.may_leave newest files.now made
+        (F.history into.old) (F.history into.new)) }
     ensures fault { IfErr result IsFault }
 {
     let log_a = write_one(alloc, into, to, WorldFile::LogA, &files.log_a)?;
@@ -130,7 +137,8 @@ fn write_images<F: Folder>(
     newest: Slot,
 ) -> Result<(F::File, F::File), Ending>
     ensures written { IsTrue F.honest → IsTrue F.File.honest → IfOk result (λ made.
-        AreImagesWritten F.File.content F.File.may_leave newest files.now made.0 made.1 (F.history into.old) (F.history into.new)) }
+        AreImagesWritten F.File.content F.File.may_leave newest files.now made.0 made.1
+        (F.history into.old) (F.history into.new)) }
     ensures fault { IfErr result IsFault }
 {
     match newest {
@@ -156,7 +164,8 @@ pub fn write_one<F: Folder>(
     bytes: &[u8],
 ) -> Result<F::File, Ending>
     ensures written { IsTrue F.honest → IsTrue F.File.honest → IfOk result (λ disk.
-        IsWritten F.File.content F.File.may_leave file bytes.now disk (F.history into.old) (F.history into.new)) }
+        IsWritten F.File.content F.File.may_leave file bytes.now disk
+        (F.history into.old) (F.history into.new)) }
     ensures named { IfErr result (NamesFile to.now file) }
     ensures fault { IfErr result IsFault }
 {
@@ -167,7 +176,8 @@ pub fn write_one<F: Folder>(
 // Makes a file with these bytes, and makes them durable.
 fn write_file<F: Folder>(into: &mut F, file: WorldFile, bytes: &[u8]) -> io::Result<F::File>
     ensures { IsTrue F.honest → IsTrue F.File.honest → IfOk result (λ disk.
-        IsWritten F.File.content F.File.may_leave file bytes.now disk (F.history into.old) (F.history into.new)) }
+        IsWritten F.File.content F.File.may_leave file bytes.now disk
+        (F.history into.old) (F.history into.new)) }
 {
     let handle = into.make(file)?;
     let mut disk = into.take(handle)?;
@@ -178,8 +188,10 @@ fn write_file<F: Folder>(into: &mut F, file: WorldFile, bytes: &[u8]) -> io::Res
 
 // Writes these bytes into an empty file, and makes them durable.
 fn write_bytes<D: Disk>(disk: &mut D, bytes: &[u8]) -> Result<(), Refusal>
-    ensures content { IsTrue D.honest → D.content disk.old ≡ [] → OnOk result (D.content disk.new ≡ bytes.now) }
-    ensures synced { IsTrue D.honest → OnOk result (Only (D.content disk.new) (D.may_leave disk.new)) }
+    ensures content { IsTrue D.honest → D.content disk.old ≡ []
+        → OnOk result (D.content disk.new ≡ bytes.now) }
+    ensures synced { IsTrue D.honest
+        → OnOk result (Only (D.content disk.new) (D.may_leave disk.new)) }
 {
     disk.write_at(0, bytes)?;
     disk.sync()

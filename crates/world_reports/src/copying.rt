@@ -1,6 +1,7 @@
 //! A copy of a world's files that is taken while a server writes them.
 ghost use Rattle.std.specs.Prelude.{◌≡◌, ◌∷◌, IsTrue, IfOk, IfErr};
-ghost use Rattle.world_reports.specs.Copying.{IsNotCopied, IsCopied, IsCopyOf, AreSameContents, reads};
+ghost use Rattle.world_reports.specs.Copying.{IsNotCopied, IsCopied, IsCopyOf, AreSameContents};
+ghost use Rattle.world_reports.specs.Copying.{reads};
 ghost use Rattle.world_folder.specs.Ending.{IsFault, NamesFile};
 ghost use Rattle.world_folder.specs.History.{Read};
 ghost use Rattle.world_reports.specs.Tried.{IsTriedOf};
@@ -17,7 +18,8 @@ use world_folder::{
 /// How often a copy is begun anew.
 const TRIES: u32 = 1_000;
 
-/// After how many looks at no open image there is none. A server that opens one closes the other only afterwards.
+/// After how many looks at no open image there is none. A server that opens one closes the other
+/// only afterwards.
 const BLANKS: u32 = 20;
 
 /// Why no copy was taken.
@@ -130,8 +132,10 @@ fn open_source<'a, F: Folder>(
     path: &'a str,
     images: Images,
 ) -> Result<Source<'a, F::File>, Ending>
-    ensures opened { IsTrue F.honest → IfOk result (λ source. F.history folder.new ≡ reads (F.File.content source.files.image_a)
-        (F.File.content source.files.image_b) (F.File.content source.files.log_a) (F.File.content source.files.log_b) (F.history folder.old)) }
+    ensures opened { IsTrue F.honest
+        → IfOk result (λ source. F.history folder.new ≡ reads (F.File.content source.files.image_a)
+        (F.File.content source.files.image_b) (F.File.content source.files.log_a)
+        (F.File.content source.files.log_b) (F.history folder.old)) }
     ensures fault { IfErr result IsFault }
 {
     let files = FourFiles {
@@ -150,7 +154,8 @@ fn open_one<F: Folder>(
     file: WorldFile,
     images: Images,
 ) -> Result<F::File, Ending>
-    ensures opened { IsTrue F.honest → IfOk result (λ disk. F.history folder.new ≡ Read file (F.File.content disk) ∷ F.history folder.old) }
+    ensures opened { IsTrue F.honest → IfOk result
+        (λ disk. F.history folder.new ≡ Read file (F.File.content disk) ∷ F.history folder.old) }
     ensures named { IfErr result (NamesFile path.now file) }
     ensures fault { IfErr result IsFault }
 {
@@ -179,7 +184,8 @@ fn try_copy<D: WorldDisk>(
     images: Images,
 ) -> Result<Tried, Ending>
     ensures copied { IsTrue D.honest → IfOk result (IsTriedOf D.content images source.old.files) }
-    ensures kept { IsTrue D.honest → IfOk result (λ _. AreSameContents D.content source.old.files source.new.files) }
+    ensures kept { IsTrue D.honest
+        → IfOk result (λ _. AreSameContents D.content source.old.files source.new.files) }
     ensures fault { IfErr result IsFault }
 {
     let Some(before) = Before::look(alloc, source)? else {

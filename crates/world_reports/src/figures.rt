@@ -2,10 +2,12 @@
 ghost use Rattle.std.specs.Prelude.{◌≡◌, IsTrue, IfOk, IfErr, OnOk, Some};
 ghost use Rattle.world_folder.specs.Ending.{IsFault};
 ghost use Rattle.world_folder.specs.Fault.{Explains};
-ghost use Rattle.world_reports.specs.StatusReport.{IsStatusReported, IsServerReported, AreFiguresReported};
+ghost use Rattle.world_reports.specs.StatusReport.{IsStatusReported, IsServerReported};
+ghost use Rattle.world_reports.specs.StatusReport.{AreFiguresReported};
 ghost use Rattle.world_reports.specs.FileReports.{IsLogReport};
 ghost use Rattle.world_reports.specs.Figures.{AreFigures, current_segment, reported_segment};
-ghost use Rattle.world_reports.specs.Texts.{figures_text, lengths_text, pair_text, segment_text, total_of};
+ghost use Rattle.world_reports.specs.Texts.{figures_text, lengths_text, pair_text, segment_text};
+ghost use Rattle.world_reports.specs.Texts.{total_of};
 
 use crate::copying::{Images, copy_world};
 use crate::counted::Counted;
@@ -90,10 +92,11 @@ pub fn status<R: Files<File = File> + Clock + Print + Eprint + AllocGlobal>(
     report_status(rt.alloc(), &mut SystemFolder::new(rt, folder), folder)
 }
 
-/// Prints the figures of the world in the folder at this path, which a server may write meanwhile, and then whether one does. If
-/// the files hold no world, only the last line is printed.
+/// Prints the figures of the world in the folder at this path, which a server may write meanwhile,
+/// and then whether one does. If the files hold no world, only the last line is printed.
 pub fn report_status<F: Folder>(alloc: Global, folder: &mut F, path: &str) -> Result<(), Ending>
-    ensures reported { IsTrue F.honest → IsTrue F.File.honest → OnOk result (IsStatusReported (F.history folder.old) (F.history folder.new)) }
+    ensures reported { IsTrue F.honest → IsTrue F.File.honest
+        → OnOk result (IsStatusReported (F.history folder.old) (F.history folder.new)) }
     ensures fault { IfErr result IsFault }
 {
     let printed = print_figures(alloc, folder, path);
@@ -102,7 +105,8 @@ pub fn report_status<F: Folder>(alloc: Global, folder: &mut F, path: &str) -> Re
 }
 
 fn print_server<F: Folder>(folder: &mut F) -> Result<(), Ending>
-    ensures reported { IsTrue F.honest → OnOk result (IsServerReported (F.history folder.old) (F.history folder.new)) }
+    ensures reported { IsTrue F.honest
+        → OnOk result (IsServerReported (F.history folder.old) (F.history folder.new)) }
     ensures fault { IfErr result IsFault }
 {
     let reported = server_in(folder)?;
@@ -111,7 +115,8 @@ fn print_server<F: Folder>(folder: &mut F) -> Result<(), Ending>
 }
 
 fn print_figures<F: Folder>(alloc: Global, folder: &mut F, path: &str) -> Result<(), Ending>
-    ensures reported { IsTrue F.honest → IsTrue F.File.honest → OnOk result (AreFiguresReported (F.history folder.old) (F.history folder.new)) }
+    ensures reported { IsTrue F.honest → IsTrue F.File.honest
+        → OnOk result (AreFiguresReported (F.history folder.old) (F.history folder.new)) }
     ensures fault { IfErr result IsFault }
 {
     let copied = match copy_world(alloc, folder, path, Images::Newest) {

@@ -1,6 +1,8 @@
 ghost use Rattle.std.specs.Prelude.{◌≡◌, Some, IsTrue, IfOk, IfErr, OnOk, string_bytes};
 ghost use Rattle.world_folder.specs.Ending.{IsFault};
-ghost use Rattle.world_reports.specs.Inspection.{IsFileLine, IsFileReport, AreFilesReported, IsInspected, file_line_text, words_text, words_printed};
+ghost use Rattle.world_reports.specs.Inspection.{IsFileLine, IsFileReport, AreFilesReported};
+ghost use Rattle.world_reports.specs.Inspection.{IsInspected, file_line_text, words_text};
+ghost use Rattle.world_reports.specs.Inspection.{words_printed};
 
 use crate::counted::Counted;
 use crate::file_reports::{ImageReport, LogReport, report_image, report_log};
@@ -15,7 +17,8 @@ use std::{fmt, io};
 use world_actions::Refusal;
 use world_folder::{Ending, Folder, FoundReport, Named, SystemFolder, WorldFile};
 
-/// Prints how each file of a folder of the system reads, and which world they hold, as `report_files` does.
+/// Prints how each file of a folder of the system reads, and which world they hold, as
+/// `report_files` does.
 pub fn inspect<R: Files<File = File> + Clock + Print + Eprint + AllocGlobal>(
     rt: &R,
     folder: &str,
@@ -27,15 +30,17 @@ pub fn inspect<R: Files<File = File> + Clock + Print + Eprint + AllocGlobal>(
     report_files(rt.alloc(), &mut system, folder, with_words)
 }
 
-/// Prints how each file of the folder at this path reads, and then which world they hold, with its words if they are asked for. A
-/// server may write the world meanwhile. This writes nothing into the folder.
+/// Prints how each file of the folder at this path reads, and then which world they hold, with
+/// its words if they are asked for. A server may write the world meanwhile. This writes nothing
+/// into the folder.
 pub fn report_files<F: Folder>(
     alloc: Global,
     folder: &mut F,
     path: &str,
     with_words: bool,
 ) -> Result<(), Ending>
-    ensures reported { IsTrue F.honest → IsTrue F.File.honest → OnOk result (IsInspected with_words (F.history folder.old) (F.history folder.new)) }
+    ensures reported { IsTrue F.honest → IsTrue F.File.honest
+        → OnOk result (IsInspected with_words (F.history folder.old) (F.history folder.new)) }
     ensures fault { IfErr result IsFault }
 {
     let seen = look_at_folder(alloc, folder, path)?;
@@ -53,7 +58,10 @@ fn print_words<F: Folder>(
     found: &Recovered,
     with_words: bool,
 ) -> Result<(), Ending>
-    ensures printed { IsTrue F.honest → OnOk result (F.history folder.new ≡ words_printed with_words found.now.words.items (F.history folder.old)) }
+    ensures printed { IsTrue F.honest
+        → OnOk result
+        (F.history folder.new
+        ≡ words_printed with_words found.now.words.items (F.history folder.old)) }
     ensures fault { IfErr result IsFault }
 {
     if with_words {
@@ -65,7 +73,8 @@ fn print_words<F: Folder>(
 
 // Prints how each file reads.
 fn print_files<F: Folder>(alloc: Global, folder: &mut F, seen: &Seen) -> Result<(), Ending>
-    ensures printed { IsTrue F.honest → OnOk result (AreFilesReported seen.now (F.history folder.old) (F.history folder.new)) }
+    ensures printed { IsTrue F.honest
+        → OnOk result (AreFilesReported seen.now (F.history folder.old) (F.history folder.new)) }
     ensures fault { IfErr result IsFault }
 {
     let lines = FourFiles {

@@ -1,8 +1,9 @@
 //! Reports on the files of a folder, and copies of them.
 //!
-//! `recover` and `inspect` print what four files hold, and `status` prints figures, and whether a server runs. These three
-//! write nothing. `back_up` copies a world that may be served. `salvage_world` makes a world of what can be read of damaged
-//! files. A look at files that a server writes counts only if their heads are alike before it and after it.
+//! `recover` and `inspect` print what four files hold, and `status` prints figures, and whether a
+//! server runs. These three write nothing. `back_up` copies a world that may be served.
+//! `salvage_world` makes a world of what can be read of damaged files. A look at files that a
+//! server writes counts only if their heads are alike before it and after it.
 #![tactic(auto)]
 
 mod backing_up;

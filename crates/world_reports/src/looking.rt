@@ -2,7 +2,8 @@
 ghost use Rattle.std.specs.Prelude.{◌≡◌, Ok, Some, IsTrue, IfOk, IfErr};
 ghost use Rattle.world_folder.specs.Ending.{IsFault};
 ghost use Rattle.world_folder.specs.Fault.{AreRead};
-ghost use Rattle.world_reports.specs.Looking.{IsSeen, IsMeasured, AreMeasured, AreReadAndMeasured, AreKnown};
+ghost use Rattle.world_reports.specs.Looking.{IsSeen, IsMeasured, AreMeasured, AreReadAndMeasured};
+ghost use Rattle.world_reports.specs.Looking.{AreKnown};
 ghost use Rattle.world_folder.specs.WorldFile.{AreNamed};
 
 use crate::copying::{Images, NotCopied, copy_world};
@@ -19,8 +20,8 @@ pub struct Seen {
     pub lengths: FourFiles<Option<u64>>,
 }
 
-/// Looks at both images and the log of the folder at this path. If no image is open, or a file can't be read, no server writes
-/// a world there, and each file is read by itself.
+/// Looks at both images and the log of the folder at this path. If no image is open, or a file
+/// can't be read, no server writes a world there, and each file is read by itself.
 pub fn look_at_folder<F: Folder>(alloc: Global, folder: &mut F, path: &str) -> Result<Seen, Ending>
     ensures seen { IsTrue F.honest → IsTrue F.File.honest → IfOk result (λ seen.
         IsSeen seen (F.history folder.old) (F.history folder.new)) }
@@ -39,7 +40,8 @@ pub fn look_at_folder<F: Folder>(alloc: Global, folder: &mut F, path: &str) -> R
 
 // Reads each file by itself, and then asks how long it is.
 fn look_at_each<F: Folder>(alloc: Global, folder: &mut F) -> Seen
-    ensures seen { IsTrue F.honest → IsTrue F.File.honest → AreReadAndMeasured result (F.history folder.old) (F.history folder.new) }
+    ensures seen { IsTrue F.honest → IsTrue F.File.honest
+        → AreReadAndMeasured result (F.history folder.old) (F.history folder.new) }
     ensures named { AreNamed result.files }
 {
     let files = read_folder(alloc, folder);
@@ -92,7 +94,8 @@ fn lengths_in<F: Folder>(folder: &mut F) -> FourFiles<Option<u64>>
 }
 
 fn length_in<F: Folder>(folder: &mut F, file: WorldFile) -> Option<u64>
-    ensures { IsTrue F.honest → IsMeasured file result (F.history folder.old) (F.history folder.new) }
+    ensures { IsTrue F.honest
+        → IsMeasured file result (F.history folder.old) (F.history folder.new) }
 {
     match folder.length(file) {
         Ok(length) => Some(length),

@@ -1,6 +1,9 @@
-//! Three looks at a world's files, which a server may write meanwhile: at their heads, at their bytes, and at their heads again.
+//! Three looks at a world's files, which a server may write meanwhile: at their heads, at their
+//! bytes, and at their heads again.
 ghost use Rattle.std.specs.Prelude.{◌≡◌, true, false, [], length, IsTrue, IfOk, IfErr, IfSome};
-ghost use Rattle.world_reports.specs.Copying.{IsCutShort, IsReadWhole, AreParts, AreHeads, AreShut, IsPart, AreSameContents, AreLengths, whole_files, head_of, shut_older};
+ghost use Rattle.world_reports.specs.Copying.{IsCutShort, IsReadWhole, AreParts, AreHeads, AreShut};
+ghost use Rattle.world_reports.specs.Copying.{IsPart, AreSameContents, AreLengths, whole_files};
+ghost use Rattle.world_reports.specs.Copying.{head_of, shut_older};
 ghost use Rattle.world_folder.specs.Ending.{IsFault, NamesFile};
 ghost use Rattle.world_folder.specs.Look.{look_of};
 ghost use Rattle.world_reports.specs.Looks.{AreLookedAlike, IsNewest};
@@ -22,7 +25,8 @@ pub struct Before {
     newest: Slot,
 }
 
-/// The bytes of four files that were read after a look at their heads, and how long the files were then.
+/// The bytes of four files that were read after a look at their heads, and how long the
+/// files were then.
 #[derive(Drop)]
 pub struct Within {
     images: Images,
@@ -37,8 +41,8 @@ pub struct After {
     heads: FourFiles<Vec<u8>>,
 }
 
-/// The bytes of four files, read between two looks that are alike, and how long the files are. Only `Alike::of` gives it, of
-/// three looks in order.
+/// The bytes of four files, read between two looks that are alike, and how long the files are. Only
+/// `Alike::of` gives it, of three looks in order.
 #[derive(Drop)]
 pub struct Alike {
     files: FourFiles<Vec<u8>>,
@@ -51,9 +55,12 @@ impl Before {
         alloc: Global,
         source: &mut Source<'_, D>,
     ) -> Result<Option<Self>, Ending>
-        ensures heads { IsTrue D.honest → IfOk result (λ found. IfSome found (λ before. AreHeads D.content source.old.files before.heads)) }
-        ensures newest { IfOk result (λ found. IfSome found (λ before. IsNewest before.heads before.newest)) }
-        ensures kept { IsTrue D.honest → IfOk result (λ _. AreSameContents D.content source.old.files source.new.files) }
+        ensures heads { IsTrue D.honest → IfOk result
+            (λ found. IfSome found (λ before. AreHeads D.content source.old.files before.heads)) }
+        ensures newest { IfOk result (λ found.
+            IfSome found (λ before. IsNewest before.heads before.newest)) }
+        ensures kept { IsTrue D.honest
+            → IfOk result (λ _. AreSameContents D.content source.old.files source.new.files) }
         ensures fault { IfErr result IsFault }
     {
         let heads = read_heads(alloc, source)?;
@@ -71,9 +78,13 @@ impl Before {
         images: Images,
     ) -> Result<Within, Ending>
         ensures before { IfOk result (λ within. (within.before ≡ self) × (within.images ≡ images)) }
-        ensures files { IsTrue D.honest → IfOk result (λ within. AreParts D.content (whole_files images self.newest) source.old.files within.files) }
-        ensures lengths { IsTrue D.honest → IfOk result (λ within. AreLengths D.content source.old.files within.lengths) }
-        ensures kept { IsTrue D.honest → IfOk result (λ _. AreSameContents D.content source.old.files source.new.files) }
+        ensures files { IsTrue D.honest
+            → IfOk result (λ within.
+            AreParts D.content (whole_files images self.newest) source.old.files within.files) }
+        ensures lengths { IsTrue D.honest
+            → IfOk result (λ within. AreLengths D.content source.old.files within.lengths) }
+        ensures kept { IsTrue D.honest
+            → IfOk result (λ _. AreSameContents D.content source.old.files source.new.files) }
         ensures fault { IfErr result IsFault }
     {
         let files = read_files(alloc, source, whole_files(images, self.newest))?;
@@ -94,8 +105,10 @@ impl Within {
         alloc: Global,
         source: &mut Source<'_, D>,
     ) -> Result<After, Ending>
-        ensures heads { IsTrue D.honest → IfOk result (λ after. AreHeads D.content source.old.files after.heads) }
-        ensures kept { IsTrue D.honest → IfOk result (λ _. AreSameContents D.content source.old.files source.new.files) }
+        ensures heads { IsTrue D.honest
+            → IfOk result (λ after. AreHeads D.content source.old.files after.heads) }
+        ensures kept { IsTrue D.honest
+            → IfOk result (λ _. AreSameContents D.content source.old.files source.new.files) }
         ensures fault { IfErr result IsFault }
     {
         let heads = read_heads(alloc, source)?;
@@ -104,10 +117,12 @@ impl Within {
 }
 
 impl Alike {
-    /// The bytes of a look between two others, if all three are alike, and no segment became longer.
+    /// The bytes of a look between two others, if all three are alike, and no segment
+    /// became longer.
     pub fn of(within: Within, after: After) -> Option<Self>
         ensures alike { IfSome result (λ _. AreLookedAlike within after) }
-        ensures files { IfSome result (λ alike. AreShut within.images within.before.newest within.files alike.files) }
+        ensures files { IfSome result (λ alike.
+            AreShut within.images within.before.newest within.files alike.files) }
         ensures lengths { IfSome result (λ alike. alike.lengths ≡ within.lengths) }
     {
         let Within {
@@ -140,8 +155,9 @@ impl Alike {
     }
 }
 
-// True if a segment's groups go on at the end of these bytes, and its file has more. The file became longer while it was
-// read: a gate that was read may have been opened later than its body's place was known.
+// True if a segment's groups go on at the end of these bytes, and its file has more. The file
+// became longer while it was read: a gate that was read may have been opened later than its body's
+// place was known.
 fn is_cut_short(bytes: &[u8], length: u64) -> bool
     ensures cut { result ≡ true → IsCutShort bytes.now length }
     ensures whole { result ≡ false → IsReadWhole bytes.now length }
@@ -154,7 +170,8 @@ fn is_cut_short(bytes: &[u8], length: u64) -> bool
     }
 }
 
-// True if both images had the same heads. No round has the tick of an earlier one, so neither image was written anew.
+// True if both images had the same heads. No round has the tick of an earlier one, so neither image
+// was written anew.
 fn same_images(before: &FourFiles<Vec<u8>>, after: &FourFiles<Vec<u8>>) -> bool
     ensures { result ≡ true → (before.now.image_a.items ≡ after.now.image_a.items)
         × (before.now.image_b.items ≡ after.now.image_b.items) }
@@ -190,7 +207,8 @@ fn read_heads<D: WorldDisk>(
     source: &mut Source<'_, D>,
 ) -> Result<FourFiles<Vec<u8>>, Ending>
     ensures heads { IsTrue D.honest → IfOk result (AreHeads D.content source.old.files) }
-    ensures kept { IsTrue D.honest → IfOk result (λ _. AreSameContents D.content source.old.files source.new.files) }
+    ensures kept { IsTrue D.honest
+        → IfOk result (λ _. AreSameContents D.content source.old.files source.new.files) }
     ensures fault { IfErr result IsFault }
 {
     let heads = FourFiles {
@@ -209,7 +227,8 @@ fn read_files<D: WorldDisk>(
     whole: FourFiles<bool>,
 ) -> Result<FourFiles<Vec<u8>>, Ending>
     ensures parts { IsTrue D.honest → IfOk result (AreParts D.content whole source.old.files) }
-    ensures kept { IsTrue D.honest → IfOk result (λ _. AreSameContents D.content source.old.files source.new.files) }
+    ensures kept { IsTrue D.honest
+        → IfOk result (λ _. AreSameContents D.content source.old.files source.new.files) }
     ensures fault { IfErr result IsFault }
 {
     let path = source.path;
@@ -241,7 +260,8 @@ fn read_one<D: WorldDisk>(
     disk: &mut D,
     whole: bool,
 ) -> Result<Vec<u8>, Ending>
-    ensures part { IsTrue D.honest → IfOk result (λ bytes. IsPart file whole (D.content disk.old) bytes.items) }
+    ensures part { IsTrue D.honest
+        → IfOk result (λ bytes. IsPart file whole (D.content disk.old) bytes.items) }
     ensures kept { IsTrue D.honest → IfOk result (λ _. D.content disk.new ≡ D.content disk.old) }
     ensures named { IfErr result (NamesFile path.now file) }
     ensures fault { IfErr result IsFault }
@@ -265,7 +285,8 @@ fn head_of(file: WorldFile) -> usize
     }
 }
 
-// The files with the older image closed, of which only the head was copied. An empty file stays one.
+// The files with the older image closed, of which only the head was copied. An empty
+// file stays one.
 fn without_older(files: FourFiles<Vec<u8>>, newest: Slot) -> FourFiles<Vec<u8>>
     ensures a { newest ≡ Slot.A → (result.image_a ≡ files.image_a)
         × (result.image_b.items ≡ shut_older files.image_b.items) }
@@ -297,7 +318,8 @@ fn lengths_of<D: WorldDisk>(
     source: &mut Source<'_, D>,
 ) -> Result<FourFiles<u64>, Ending>
     ensures lengths { IsTrue D.honest → IfOk result (AreLengths D.content source.old.files) }
-    ensures kept { IsTrue D.honest → IfOk result (λ _. AreSameContents D.content source.old.files source.new.files) }
+    ensures kept { IsTrue D.honest
+        → IfOk result (λ _. AreSameContents D.content source.old.files source.new.files) }
     ensures fault { IfErr result IsFault }
 {
     let path = source.path;

@@ -26,10 +26,12 @@ pub fn recover<R: fs::Files<File = File> + Clock + Print + Eprint + AllocGlobal>
     report_world(rt.alloc(), &mut SystemFolder::new(rt, folder), folder)
 }
 
-/// Prints which world the files of the folder at this path hold, which a server may write meanwhile. It writes nothing into the
-/// folder. On standard error it names a log that may have been lost.
+/// Prints which world the files of the folder at this path hold, which a server may write
+/// meanwhile. It writes nothing into the folder. On standard error it names a log that
+/// may have been lost.
 pub fn report_world<F: Folder>(alloc: Global, folder: &mut F, path: &str) -> Result<(), Ending>
-    ensures reported { IsTrue F.honest → IsTrue F.File.honest → OnOk result (IsWorldReported (F.history folder.old) (F.history folder.new)) }
+    ensures reported { IsTrue F.honest → IsTrue F.File.honest
+        → OnOk result (IsWorldReported (F.history folder.old) (F.history folder.new)) }
     ensures fault { IfErr result IsFault }
 {
     let seen = look_at_folder(alloc, folder, path)?;
@@ -46,7 +48,8 @@ pub fn report_world<F: Folder>(alloc: Global, folder: &mut F, path: &str) -> Res
 // Names a log that may have been lost of a world at this tick.
 fn warn_of_doubt<F: Folder>(folder: &mut F, tick: u64, files: &FourFiles<Vec<u8>>) -> io::Result<()>
     ensures { IsTrue F.honest → OnOk result (F.history folder.new
-        ≡ with_doubt (doubtful_log tick files.now.log_a.items files.now.log_b.items) (F.history folder.old)) }
+        ≡ with_doubt (doubtful_log tick files.now.log_a.items files.now.log_b.items)
+        (F.history folder.old)) }
 {
     if let Some(slot) = doubtful_log(tick, files) {
         folder.warn(DoubtfulLine(Doubtful(slot)))?;
@@ -84,7 +87,8 @@ pub fn found_in(
     folder: &str,
     files: FourFiles<Named<io::Result<Vec<u8>>>>,
 ) -> Result<Recovered, Ending>
-    ensures found { IfOk result (λ found. (bytes : Files) × AreRead files bytes × Stands bytes found) }
+    ensures found { IfOk result (λ found. (bytes : Files)
+        × AreRead files bytes × Stands bytes found) }
     ensures why { IfErr result (ReportsWhy folder.now files) }
     ensures fault { IfErr result IsFault }
 {

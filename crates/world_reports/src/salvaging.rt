@@ -2,7 +2,8 @@
 ghost use Rattle.std.specs.Prelude.{◌≡◌, ◌↔◌, ◌++◌, codes, Some, IsTrue, IfOk, IfErr, OnOk};
 ghost use Rattle.world_actions.specs.World.{IsWorld};
 ghost use Rattle.world_folder.specs.Ending.{IsFault};
-ghost use Rattle.world_reports.specs.Salvaging.{IsLost, AreBytesOf, NamesLost, AreTakenOf, IsSalvagedOf, IsSalvagedInto, parts_printed};
+ghost use Rattle.world_reports.specs.Salvaging.{IsLost, AreBytesOf, NamesLost, AreTakenOf};
+ghost use Rattle.world_reports.specs.Salvaging.{IsSalvagedOf, IsSalvagedInto, parts_printed};
 ghost use Rattle.world_reports.specs.Texts.{image_part_text, log_part_text, run_text};
 ghost use Rattle.world_folder.specs.WorldFile.{name_of};
 
@@ -22,7 +23,8 @@ use std::time::Clock;
 use world_actions::Refusal;
 use world_folder::{Ending, Fault, Folder, Named, SystemFolder, WorldFile, opened, read_folder};
 
-/// Makes a world in an empty folder of the system of what can be read of the files of another one, as `salvage_into` does.
+/// Makes a world in an empty folder of the system of what can be read of the files of another one,
+/// as `salvage_into` does.
 pub fn salvage_world<R: Files<File = File> + Clock + Print + Eprint + AllocGlobal>(
     rt: &R,
     folder: &str,
@@ -38,8 +40,9 @@ pub fn salvage_world<R: Files<File = File> + Clock + Print + Eprint + AllocGloba
     }
 }
 
-/// Makes a world in an empty folder of what can be read of the files of another one, in which nothing is written. It prints
-/// what it took of each file, and which world the new files hold: its image, beside closed files. These files are returned.
+/// Makes a world in an empty folder of what can be read of the files of another one, in which
+/// nothing is written. It prints what it took of each file, and which world the new files hold: its
+/// image, beside closed files. These files are returned.
 pub fn salvage_into<F: Folder, T: Folder>(
     alloc: Global,
     from: &mut F,
@@ -47,8 +50,10 @@ pub fn salvage_into<F: Folder, T: Folder>(
     into: &mut T,
     to: &str,
 ) -> Result<FourFiles<T::File>, Ending>
-    ensures salvaged { IsTrue F.honest → IsTrue F.File.honest → IsTrue T.honest → IsTrue T.File.honest → IfOk result (λ files.
-        IsSalvagedInto T.File.content T.File.may_leave files (F.history from.old) (F.history from.new) (T.history into.old) (T.history into.new)) }
+    ensures salvaged { IsTrue F.honest → IsTrue F.File.honest → IsTrue T.honest
+        → IsTrue T.File.honest → IfOk result (λ files.
+        IsSalvagedInto T.File.content T.File.may_leave files (F.history from.old)
+        (F.history from.new) (T.history into.old) (T.history into.new)) }
     ensures fault { IfErr result IsFault }
 {
     look_for_room(alloc, into, to)?;
@@ -70,7 +75,8 @@ fn readable_in<T: Folder>(
     read: FourFiles<Named<io::Result<Vec<u8>>>>,
     into: &mut T,
 ) -> Result<FourFiles<Vec<u8>>, Ending>
-    ensures taken { IsTrue T.honest → IfOk result (λ files. AreTakenOf read files (T.history into.old) (T.history into.new)) }
+    ensures taken { IsTrue T.honest
+        → IfOk result (λ files. AreTakenOf read files (T.history into.old) (T.history into.new)) }
     ensures fault { IfErr result IsFault }
 {
     let FourFiles {
@@ -94,7 +100,8 @@ fn readable<T: Folder>(
     into: &mut T,
 ) -> Result<Vec<u8>, Ending>
     ensures bytes { IfOk result (AreBytesOf file.value) }
-    ensures named { IsTrue T.honest → OnOk result (NamesLost file.value (T.history into.old) (T.history into.new)) }
+    ensures named { IsTrue T.honest
+        → OnOk result (NamesLost file.value (T.history into.old) (T.history into.new)) }
     ensures fault { IfErr result IsFault }
 {
     match file.value {
@@ -143,7 +150,8 @@ fn salvaged_of(alloc: Global, files: &FourFiles<Vec<u8>>) -> Result<Salvaged, En
 
 // Prints what is taken of each file.
 fn print_parts<T: Folder>(into: &mut T, salvaged: &Salvaged) -> Result<(), Ending>
-    ensures printed { IsTrue T.honest → OnOk result (T.history into.new ≡ parts_printed salvaged.now (T.history into.old)) }
+    ensures printed { IsTrue T.honest
+        → OnOk result (T.history into.new ≡ parts_printed salvaged.now (T.history into.old)) }
     ensures fault { IfErr result IsFault }
 {
     let tick = salvaged.found.tick;
@@ -171,7 +179,8 @@ impl fmt::Display for ImageLine {
 struct LogLine(WorldFile, LogTaken);
 
 impl fmt::Display for LogLine {
-    ghost output = { λ line. Some (name_of line.0 ++ codes ": " ++ log_part_text line.1.0 line.1.1) };
+    ghost output = { λ line.
+        Some (name_of line.0 ++ codes ": " ++ log_part_text line.1.0 line.1.1) };
 
     fn fmt<W: fmt::Write>(&self, f: &mut fmt::Formatter<W>) -> fmt::Result {
         write!(f, "{}: {}", self.0.name(), self.1)

@@ -37,15 +37,19 @@ pub struct Locks {
 
 /// Reports on the server of the world in a folder. It asks for locks, and gives them back at once.
 pub fn server_in<F: Folder>(folder: &mut F) -> io::Result<ServerReport>
-    ensures { IsTrue F.honest → IfOk result (λ reported. IsServerReport reported (F.history folder.old) (F.history folder.new)) }
+    ensures { IsTrue F.honest
+        → IfOk result (λ reported.
+        IsServerReport reported (F.history folder.old) (F.history folder.new)) }
 {
     let locks = locks_in(folder)?;
     Ok(report_of_locks(&locks))
 }
 
-// Asks for the lock of image.a last. A server that starts or ends meanwhile is then reported as one without a fault, or as none.
+// Asks for the lock of image.a last. A server that starts or ends meanwhile is then reported as one
+// without a fault, or as none.
 fn locks_in<F: Folder>(folder: &mut F) -> io::Result<Locks>
-    ensures { IsTrue F.honest → IfOk result (λ locks. F.history folder.new ≡ asked locks (F.history folder.old)) }
+    ensures { IsTrue F.honest
+        → IfOk result (λ locks. F.history folder.new ≡ asked locks (F.history folder.old)) }
 {
     let image_b = folder.lock_state(WorldFile::ImageB)?;
     let log_a = folder.lock_state(WorldFile::LogA)?;

@@ -15,7 +15,8 @@ use world_folder::{Ending, Folder, Unreadable, WorldReport, path_of, read_folder
 /// Why what was written isn't reported as a world.
 const OTHER_WORLD: &str = "its files hold another world than was written into them";
 
-/// Shows that new files recover to the world that was written into them. Only `Verified::of` gives one.
+/// Shows that new files recover to the world that was written into them. Only
+/// `Verified::of` gives one.
 #[derive(Clone, Copy, Debug, PartialEq, Eq)]
 pub struct Verified {
     world: WorldReport,

@@ -15,20 +15,27 @@ use Rattle.world_server.specs.declared.reporter.Report.{Report}
 -- the figures of a running server
 abbrev pub report_text : Report → List ℕ
 report_text report =
-    codes "tick " ++ decimal report.counts.tick ++ codes " acked " ++ decimal report.counts.acked ++ codes " image " ++ decimal report.counts.image
-    ++ codes " sessions " ++ decimal report.counts.sessions ++ codes " batches/s " ++ decimal report.rate ++ codes " waiting " ++ decimal report.counts.waiting
+    codes "tick " ++ decimal report.counts.tick ++ codes " acked " ++ decimal report.counts.acked
+    ++ codes " image " ++ decimal report.counts.image
+    ++ codes " sessions " ++ decimal report.counts.sessions ++ codes " batches/s "
+    ++ decimal report.rate ++ codes " waiting " ++ decimal report.counts.waiting
 
--- a line, over the paths of the server's files and socket; nothing is stated of a line that may have an error of the system
+-- a line, over the paths of the server's files and socket; nothing is stated of a line that may
+-- have an error of the system
 abbrev pub line_text : Paths → Line → Option (List ℕ)
-line_text paths line.ManyImages = Some (codes "an image every 64 ticks can halve the speed: give --every, for example 4096")
+line_text paths line.ManyImages =
+    Some (codes "an image every 64 ticks can halve the speed: give --every, for example 4096")
 line_text paths (line.Recovered ended from) = Some (codes "recovered " ++ world_text ended from)
 line_text paths (line.Doubtful doubtful) = Some (doubtful_text doubtful.0)
 line_text paths (line.Listening port) = Some (codes "listening " ++ decimal port)
 line_text paths line.ListeningAtSocket = Some (codes "listening " ++ path_buf_bytes paths.socket)
-line_text paths (line.Stopped ended acked) = Some (codes "stopped tick " ++ decimal ended ++ codes " acked " ++ decimal acked)
-line_text paths (line.ImageOpened tick) = Some (codes "image of tick " ++ decimal tick ++ codes " opened")
+line_text paths (line.Stopped ended acked) =
+    Some (codes "stopped tick " ++ decimal ended ++ codes " acked " ++ decimal acked)
+line_text paths (line.ImageOpened tick) =
+    Some (codes "image of tick " ++ decimal tick ++ codes " opened")
 line_text paths (line.FileMissed file) =
-    Some (path_buf_bytes (path_at paths.files file) ++ codes " was removed or replaced: save the files before the server ends")
+    Some (path_buf_bytes (path_at paths.files file)
+    ++ codes " was removed or replaced: save the files before the server ends")
 line_text paths (line.SessionRefused NoMemory) = Some (codes "session refused: there is no memory")
 line_text paths (line.SessionRefused NoThread) = Some (codes "session refused: there is no thread")
 line_text paths line.ShortageEnded = Some (codes "clients no longer wait")

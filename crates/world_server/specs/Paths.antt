@@ -33,4 +33,6 @@ socket_path (Socket path mode) = path.now
 
 -- the paths of a service
 abbrev pub ArePathsOf : Service → Paths → Type 0
-ArePathsOf service paths = ArePathsIn service.folder.now paths.files × (path_buf_bytes paths.socket ≡ socket_path service.address)
+ArePathsOf service paths =
+    ArePathsIn service.folder.now paths.files
+    × (path_buf_bytes paths.socket ≡ socket_path service.address)

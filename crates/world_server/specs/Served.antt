@@ -1,5 +1,6 @@
 -- A world that a server serves, from its four files as they were to the files as they are left.
-use Rattle.std.specs.Prelude.{◌≡◌, ◌≤◌, ◌⊎◌, Bool, ℕ, List, [], ◌∷◌, ◌++◌, length, take, max, Option, None, Some}
+use Rattle.std.specs.Prelude.{◌≡◌, ◌≤◌, ◌⊎◌, Bool, ℕ, List, [], ◌∷◌, ◌++◌, length, take, max}
+use Rattle.std.specs.Prelude.{Option, None, Some}
 use Rattle.world_actions.specs.declared.action.Action.{Action}
 use Rattle.world_actions.specs.declared.refusal.Refusal.TheVariants.{NoMemory, Device}
 use Rattle.disk_model.specs.FourFiles.{EachFile, KeepsFile}
@@ -37,7 +38,8 @@ abbrev pub doubtful_lines : Option Doubtful → List Line
 doubtful_lines None = []
 doubtful_lines (Some doubtful) = line.Doubtful doubtful ∷ []
 
--- the line of a server that has stopped: how many ticks ended, and which is the greatest acknowledged one
+-- the line of a server that has stopped: how many ticks ended, and which is the greatest
+-- acknowledged one
 abbrev pub stopped_line : {D : Type 0} → Playing → Imaging D → Logging D → Line
 stopped_line m c w = line.Stopped m.ended (acknowledged_by c w)
 
@@ -63,7 +65,8 @@ EndsBy other ending = IsFault ending
 -- ---- the files
 
 -- recovery of the files gives these words, after this tick, from an image of that tick
-pub record RecoversTo {D : Type 0} (file : D → List ℕ) (files : FourFiles D) (words : List ℕ) (world : WorldReport) : Type 0 where
+pub record RecoversTo {D : Type 0} (file : D → List ℕ) (files : FourFiles D) (words : List ℕ)
+    (world : WorldReport) : Type 0 where
   pub recovery : Recovery
   pub recovers : RecoversFiles file files recovery
   pub words_are : words ≡ recovery.words
@@ -71,41 +74,50 @@ pub record RecoversTo {D : Type 0} (file : D → List ℕ) (files : FourFiles D)
   pub from_is : world.from ≡ recovery.from
 
 module _ {D : Type 0} (file : D → List ℕ) (leaves : D → List ℕ → Type 0) where
-  -- If the first files were those of a world, the others recover to exactly this tick of it, whatever a crash leaves of them.
-  -- No acknowledged tick comes after it.
+  -- If the first files were those of a world, the others recover to exactly this tick of it,
+  -- whatever a crash leaves of them. No acknowledged tick comes after it.
   abbrev pub KeepsWorld : FourFiles D → (tick : ℕ) → FourFiles D → Type 0
   KeepsWorld files tick left =
-      (first : List ℕ) (ticks : List (List Action)) (acknowledged : ℕ) → AreOfWorld file leaves files first ticks acknowledged
+      (first : List ℕ) (ticks : List (List Action)) (acknowledged : ℕ)
+      → AreOfWorld file leaves files first ticks acknowledged
       → (acknowledged ≤ tick) × AreSound file leaves left first (take tick ticks) tick
 
-  -- If the files were those of a world, these words, keepers and files hold it at rest after its recovered ticks. No
-  -- acknowledged tick comes after these.
-  abbrev pub StandsOpened : FourFiles D → (tick : ℕ) → (words : List ℕ) → ImageWriter D → Log D → Type 0
+  -- If the files were those of a world, these words, keepers and files hold it at rest after its
+  -- recovered ticks. No acknowledged tick comes after these.
+  abbrev pub StandsOpened : FourFiles D → (tick : ℕ) → (words : List ℕ)
+      → ImageWriter D → Log D → Type 0
   StandsOpened files tick words writer log =
-      (first : List ℕ) (ticks : List (List Action)) (acknowledged : ℕ) → AreOfWorld file leaves files first ticks acknowledged
-      → WorldStands file leaves first (take tick ticks) words writer log × (tick ≡ length (take tick ticks))
+      (first : List ℕ) (ticks : List (List Action)) (acknowledged : ℕ)
+      → AreOfWorld file leaves files first ticks acknowledged
+      → WorldStands file leaves first (take tick ticks) words writer log
+      × (tick ≡ length (take tick ticks))
 
-  -- If the files were those of a world, the workers leave theirs sound: for the recovered ones of its ticks and all that were
-  -- played after them, and for the greater of its acknowledged count and theirs. The mutator counts as many ticks.
+  -- If the files were those of a world, the workers leave theirs sound: for the recovered ones of
+  -- its ticks and all that were played after them, and for the greater of its acknowledged count
+  -- and theirs. The mutator counts as many ticks.
   abbrev pub GoesOnSound : FourFiles D → (tick : ℕ) → Playing → Imaging D → Logging D → Type 0
   GoesOnSound files tick m c w =
-      (first : List ℕ) (ticks : List (List Action)) (acknowledged : ℕ) → AreOfWorld file leaves files first ticks acknowledged
+      (first : List ℕ) (ticks : List (List Action)) (acknowledged : ℕ)
+      → AreOfWorld file leaves files first ticks acknowledged
       → let all : List (List Action) = take tick ticks ++ ticks_in (records_of m.to.items) in
-      AreSound file leaves (files_of c.images w.log) first all (max acknowledged (acknowledged_by c w)) × (m.ended ≡ length all)
+      AreSound file leaves (files_of c.images w.log) first all
+      (max acknowledged (acknowledged_by c w)) × (m.ended ≡ length all)
 
-  -- The files of a world that isn't served. They were only read, or they still recover to the same world. Nothing is said of
-  -- files that were handed to workers.
+  -- The files of a world that isn't served. They were only read, or they still recover to the same
+  -- world. Nothing is said of files that were handed to workers.
   abbrev pub LeavesWorld : FourFiles D → WorldFailure D → Type 0
   LeavesWorld files (failure.NotRecovered left why) = EachFile files left (KeepsFile file leaves)
   LeavesWorld files (failure.NotStarted world left refusal) = KeepsWorld files world.tick left
   LeavesWorld files (failure.NotOpened world left ending) = KeepsWorld files world.tick left
   LeavesWorld files (failure.NotRun world ending) = Unit {0}
 
--- The reason why a world isn't served: recovery refuses the files or one of them was lost, or its start found no memory or a
--- device failed. What else fails, the ending says.
-abbrev pub FailsFor : {D : Type 0} → (file : D → List ℕ) → (honest : Bool) → FourFiles D → WorldFailure D → Type 0
+-- The reason why a world isn't served: recovery refuses the files or one of them was lost, or its
+-- start found no memory or a device failed. What else fails, the ending says.
+abbrev pub FailsFor : {D : Type 0} → (file : D → List ℕ) → (honest : Bool) → FourFiles D
+    → WorldFailure D → Type 0
 FailsFor file honest files (failure.NotRecovered left why) = IsUnrecovered file honest files why
-FailsFor file honest files (failure.NotStarted world left refusal) = (refusal ≡ NoMemory) ⊎ (refusal ≡ Device)
+FailsFor file honest files (failure.NotStarted world left refusal) =
+    (refusal ≡ NoMemory) ⊎ (refusal ≡ Device)
 FailsFor file honest files (failure.NotOpened world left ending) = Unit {0}
 FailsFor file honest files (failure.NotRun world ending) = Unit {0}
 
@@ -113,5 +125,6 @@ FailsFor file honest files (failure.NotRun world ending) = Unit {0}
 abbrev pub GivesBack : {D : Type 0} → WorldReport → FourFiles D → WorldFailure D → Type 0
 GivesBack world files (failure.NotRecovered left why) = ⊥
 GivesBack world files (failure.NotStarted recovered left refusal) = ⊥
-GivesBack world files (failure.NotOpened recovered left ending) = (recovered ≡ world) × (left ≡ files)
+GivesBack world files (failure.NotOpened recovered left ending) =
+    (recovered ≡ world) × (left ≡ files)
 GivesBack world files (failure.NotRun recovered ending) = recovered ≡ world

@@ -6,8 +6,10 @@ use Rattle.image_files.specs.declared.phase.Phase.TheVariants.{Down}
 use Rattle.client_service.specs.declared.accept.Closed.{Closed}
 use Rattle.client_service.specs.declared.accept.Closed.TheVariants as closed
 use Rattle.world_folder.specs.declared.ending.Ending.{Ending}
-use Rattle.world_folder.specs.declared.ending.Ending.TheVariants.{Ran, HelpPrinted, Mistaken, Fault, Server}
-use Rattle.world_folder.specs.declared.ending.ServerEnding.TheVariants.{ListenerFailed, ImagesDown, LogDown}
+use Rattle.world_folder.specs.declared.ending.Ending.TheVariants.{Ran, HelpPrinted, Mistaken, Fault}
+use Rattle.world_folder.specs.declared.ending.Ending.TheVariants.{Server}
+use Rattle.world_folder.specs.declared.ending.ServerEnding.TheVariants.{ListenerFailed, ImagesDown}
+use Rattle.world_folder.specs.declared.ending.ServerEnding.TheVariants.{LogDown}
 use Rattle.world_server.specs.declared.standing.Losses.{Losses}
 
 -- A server ran to its end, or a fault or a failure ended it. No command line ends it.
@@ -18,7 +20,10 @@ EndsServing ending = Unit {0}
 
 -- how a server ends that is left: by its log, else by its images, else by its listener; else well
 abbrev pub left_ending : Losses → Ending
-left_ending lost = if lost.log then Server LogDown else (if lost.images then Server ImagesDown else (if lost.listener then Server ListenerFailed else Ran))
+left_ending lost =
+    if lost.log then Server LogDown else
+    (if lost.images then Server ImagesDown else
+    (if lost.listener then Server ListenerFailed else Ran))
 
 -- how a server ends whose log and images are up, by the reason why no more connections are accepted
 abbrev pub closed_ending : Closed → Ending
@@ -27,8 +32,10 @@ closed_ending closed.NoMemory = Fault NoMemory
 closed_ending (closed.Failed error) = Server ListenerFailed
 closed_ending closed.Left = Server LogDown
 
--- a server that has stopped ends by its log, else by its images, else by the reason why no more connections are accepted
-pub record StopsWith (log_down : Bool) (images : Phase) (reason : Closed) (ending : Ending) : Type 0 where
+-- a server that has stopped ends by its log, else by its images, else by the reason why no more
+-- connections are accepted
+pub record StopsWith (log_down : Bool) (images : Phase) (reason : Closed)
+    (ending : Ending) : Type 0 where
   pub log : log_down ≡ true → ending ≡ Server LogDown
   pub images_down : log_down ≡ false → images ≡ Down → ending ≡ Server ImagesDown
   pub up : log_down ≡ false → images ≢ Down → ending ≡ closed_ending reason

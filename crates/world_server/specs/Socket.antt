@@ -3,7 +3,8 @@ use Rattle.std.specs.Prelude.{ℕ, List, codes}
 use Rattle.world_server.specs.declared.socket.SocketMode.{SocketMode}
 use Rattle.world_server.specs.declared.socket.SocketMode.TheVariants.{Owner, Group, Everyone}
 
--- the permissions of a socket's file: to read and to write it, for its owner, its group and everyone
+-- the permissions of a socket's file: to read and to write it, for its owner, its
+-- group and everyone
 abbrev pub bits_of : SocketMode → ℕ
 bits_of Owner = 0o600
 bits_of Group = 0o660

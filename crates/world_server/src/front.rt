@@ -11,7 +11,8 @@ use transports::Listener;
 use worker_steps::Opened;
 use world_folder::Ending;
 
-/// Prints the lines of a server of such a world, and lets its clients in. `W` hears of its workers and its sessions.
+/// Prints the lines of a server of such a world, and lets its clients in. `W` hears of its workers
+/// and its sessions.
 pub trait Front<M: Method, D: Disk + Drop, W> {
     /// True if it is known what this type prints. If it is false, contracts state nothing of that.
     ghost known: { Bool };

@@ -1,4 +1,5 @@
-//! The files of a running server: whether they still have a name, and the locks by which others see what is down.
+//! The files of a running server: whether they still have a name, and the locks by which others
+//! see what is down.
 ghost use Rattle.std.specs.Prelude.{◌≡◌, ◌≢◌, Ok, true, false, IfOk, IfErr, IsErr};
 ghost use Rattle.world_folder.specs.Ending.{IsFault};
 
@@ -30,13 +31,14 @@ impl KeptFile {
         })
     }
 
-    /// True the first time that the file has no name any more: it was removed, or another file was moved over it.
+    /// True the first time that the file has no name any more: it was removed, or another file
+    /// was moved over it.
     pub fn is_newly_missed(&self) -> bool {
         is_removed(self.names()) && !self.is_missed.swap(true, Ordering::SeqCst)
     }
 
-    /// Locks the file up to the server's end, which `status` sees. It waits while `status` asks, a second at most, and gives
-    /// up then.
+    /// Locks the file up to the server's end, which `status` sees. It waits while `status` asks, a
+    /// second at most, and gives up then.
     pub fn lock<R: Clock>(&self, rt: &R) {
         let _ = lock(rt, &self.file);
     }

@@ -1,8 +1,9 @@
 //! A server of the world in a folder: what it needs of the system, what it prints, and how it ends.
 //!
-//! `serve_world` serves the world of any four files to the clients of any front. It recovers the world, prints which one it
-//! is, runs its start, lets the clients in, and prints how far play came. `serve` does that with the files of a folder and the
-//! system's front. Lines leave by a thread for each standard stream, so nobody waits for their readers.
+//! `serve_world` serves the world of any four files to the clients of any front. It recovers the
+//! world, prints which one it is, runs its start, lets the clients in, and prints how far play
+//! came. `serve` does that with the files of a folder and the system's front. Lines leave by a
+//! thread for each standard stream, so nobody waits for their readers.
 #![tactic(auto)]
 
 mod front;

@@ -18,8 +18,8 @@ use worker_threads::{TickWatch, Watch};
 use workers::{ImageWriter, Log};
 use world_folder::WorldFile;
 
-/// Passes on what happens in a running server as lines, and never waits for their readers. It locks the file that says what
-/// is down.
+/// Passes on what happens in a running server as lines, and never waits for their readers. It locks
+/// the file that says what is down.
 #[derive(Drop)]
 pub struct Lines<R: Wait + Clock + Net + Copy> {
     pub rt: R,
@@ -180,9 +180,11 @@ fn first_failure(
     b: (WorldFile, Option<&io::Error>),
 ) -> Option<Failure>
     ensures none { a.entry.1 ≡ None → b.entry.1 ≡ None → result ≡ None }
-    ensures first { IfSome a.entry.1 (λ error. result ≡ Some (record { file = a.entry.0; error = error.now })) }
+    ensures first { IfSome a.entry.1 (λ error. result
+        ≡ Some (record { file = a.entry.0; error = error.now })) }
     ensures second { a.entry.1 ≡ None
-        → IfSome b.entry.1 (λ error. result ≡ Some (record { file = b.entry.0; error = error.now })) }
+        → IfSome b.entry.1 (λ error. result
+        ≡ Some (record { file = b.entry.0; error = error.now })) }
 {
     match (a, b) {
         ((file, Some(error)), _) | (_, (file, Some(error))) => Some(Failure {

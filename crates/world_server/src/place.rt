@@ -40,8 +40,8 @@ impl Place {
         }
     }
 
-    /// Wakes the server from a wait for clients, by its own connection. At a socket it waits while the system's queue
-    /// of connections is full; a server with such a queue is awake.
+    /// Wakes the server from a wait for clients, by its own connection. At a socket it waits while
+    /// the system's queue of connections is full; a server with such a queue is awake.
     pub fn wake<R: Net>(&self, rt: &R) {
         match self {
             Place::Port(address) => {

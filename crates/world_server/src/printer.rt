@@ -14,7 +14,8 @@ use world_folder::Escaped;
 /// How many lines may wait for a stream.
 const LINES: usize = 256;
 
-/// For how many seconds the end of the program waits for room in a stream that isn't read, and then for its last line.
+/// For how many seconds the end of the program waits for room in a stream that isn't read, and then
+/// for its last line.
 const PATIENCE_SECONDS: u64 = 1;
 
 /// A standard stream.
@@ -23,7 +24,8 @@ pub trait Stream {
     fn print(&self, line: Line) -> io::Result<()>;
 }
 
-/// Standard error: each line begins with the program's name, and its control characters are escaped.
+/// Standard error: each line begins with the program's name, and its control
+/// characters are escaped.
 #[derive(Drop)]
 pub struct StandardError<R: Eprint> {
     pub rt: R,
@@ -86,8 +88,8 @@ impl Printer {
         }
     }
 
-    /// Waits until all lines have left, but no longer than a reader may be waited for. It returns the first failure of
-    /// the stream.
+    /// Waits until all lines have left, but no longer than a reader may be waited for. It returns
+    /// the first failure of the stream.
     pub fn finish<R: Wait + Clock>(
         self,
         rt: &R,
@@ -125,7 +127,8 @@ pub fn start_printer<R: Threads + Wait + Copy + Send + 'static, S: Stream + Send
     }
 }
 
-// Prints each line until the last one, and how many were dropped once there is room. It returns the first failure.
+// Prints each line until the last one, and how many were dropped once there is room. It returns
+// the first failure.
 fn print_lines<R: Wait, S: Stream>(
     rt: &R,
     lines: Receiver<Line>,

@@ -33,8 +33,9 @@ impl fmt::Display for Report {
     }
 }
 
-/// Starts a thread that waits for the counts of a server on the returned channel, and then prints its figures each time so
-/// many seconds have passed. It runs on up to the program's end, or ends if no counts can come.
+/// Starts a thread that waits for the counts of a server on the returned channel, and then prints
+/// its figures each time so many seconds have passed. It runs on up to the program's end, or ends
+/// if no counts can come.
 pub fn start_reporter<R: Threads + Wait + Clock + Copy + Send + 'static>(
     rt: &R,
     alloc: Global,

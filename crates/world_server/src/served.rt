@@ -1,5 +1,6 @@
 //! A world that a server serves, from its four files as they were to the files as they are left.
-ghost use Rattle.std.specs.Prelude.{◌≡◌, ◌≤◌, ◌++◌, ◌∷◌, [], Option, option_map, IsTrue, IfOk, IfErr, MatchResult};
+ghost use Rattle.std.specs.Prelude.{◌≡◌, ◌≤◌, ◌++◌, ◌∷◌, [], Option, option_map, IsTrue, IfOk};
+ghost use Rattle.std.specs.Prelude.{IfErr, MatchResult};
 ghost use Rattle.workers.specs.AskOrder.{PlaysInTurn};
 ghost use Rattle.worker_steps.specs.Begun.{IsWhole};
 ghost use Rattle.worker_steps.specs.Stopped.{StaysSound};
@@ -7,7 +8,8 @@ ghost use Rattle.worker_threads.specs.Opening.{files_of};
 ghost use Rattle.world_folder.specs.declared.lost.Doubtful.{Doubtful as Doubt};
 ghost use Rattle.world_folder.specs.Lost.{DoubtfulIn, NothingLost};
 ghost use Rattle.world_server.specs.Serving.{EndsServing, StopsWith, left_ending};
-ghost use Rattle.world_server.specs.Served.{recovered_line, doubtful_lines, stopped_line, failure_lines};
+ghost use Rattle.world_server.specs.Served.{recovered_line, doubtful_lines, stopped_line};
+ghost use Rattle.world_server.specs.Served.{failure_lines};
 ghost use Rattle.world_server.specs.Served.{RecoversTo, KeepsWorld, StandsOpened, GoesOnSound};
 ghost use Rattle.world_server.specs.Served.{LeavesWorld, FailsFor, GivesBack, EndsAsFailed};
 
@@ -52,10 +54,11 @@ pub enum WorldFailure<D: Disk + Drop> {
     NotRun(WorldReport, Ending),
 }
 
-/// Serves the world of four files. It recovers the world, prints which one it is, runs its start, lets the clients in, and
-/// stops the workers after the last client. It then prints how far play came. On disks that keep to the disk model the
-/// files are sound throughout. A refusal leaves them with the same world. A server leaves them with all that was
-/// acknowledged. Each session's batches are taken in its order, none left out, and played at most once.
+/// Serves the world of four files. It recovers the world, prints which one it is, runs its start,
+/// lets the clients in, and stops the workers after the last client. It then prints how far play
+/// came. On disks that keep to the disk model the files are sound throughout. A refusal leaves them
+/// with the same world. A server leaves them with all that was acknowledged. Each session's batches
+/// are taken in its order, none left out, and played at most once.
 pub fn serve_world<
     R: Threads + Wait + Clock + Copy + Send + 'static,
     M: Seats + Send + 'static,
@@ -78,14 +81,17 @@ pub fn serve_world<
         GoesOnSound D.content D.may_leave files served.recovered.tick served.stopped.workers.mutator
         served.stopped.workers.checkpointer served.stopped.workers.log_writer) }
     ensures in_turn { IfOk result (λ served.
-        PlaysInTurn served.stopped.workers.mutator.asks.taken served.stopped.workers.mutator.to.items) }
+        PlaysInTurn served.stopped.workers.mutator.asks.taken
+        served.stopped.workers.mutator.to.items) }
     ensures left { IsTrue D.honest → IfErr result (LeavesWorld D.content D.may_leave files) }
     ensures reason { IfErr result (FailsFor D.content D.honest files) }
     ensures printed { IsTrue F.known → MatchResult result
         (λ served. F.printed front.new ≡ F.printed front.old ++ recovered_line served.recovered
-        ∷ stopped_line served.stopped.workers.mutator served.stopped.workers.checkpointer served.stopped.workers.log_writer ∷ [])
+        ∷ stopped_line served.stopped.workers.mutator served.stopped.workers.checkpointer
+        served.stopped.workers.log_writer ∷ [])
         (λ failure. F.printed front.new ≡ F.printed front.old ++ failure_lines failure) }
-    ensures doubtful { IsTrue F.known → IsTrue D.honest → IfOk result (λ served. (doubtful : Option Doubt)
+    ensures doubtful { IsTrue F.known → IsTrue D.honest
+        → IfOk result (λ served. (doubtful : Option Doubt)
         × DoubtfulIn D.content served.recovered.tick files (option_map (λ doubt. doubt.0) doubtful)
         × (F.noted front.new ≡ F.noted front.old ++ doubtful_lines doubtful)) }
     ensures ends { IfErr result EndsAsFailed }
@@ -106,9 +112,12 @@ fn open_files<M: Seats, D: Disk + Drop, W, F: Front<M, D, W>>(
     ensures begins { IfOk result (λ made.
         IsWhole D.honest D.content made.1.front made.1.back made.1.images made.1.log made.1.ended) }
     ensures tick { IfOk result (λ made. made.1.ended ≡ made.0.tick) }
-    ensures recovered { IsTrue D.honest → IfOk result (λ made. RecoversTo D.content files made.1.front.live made.0) }
-    ensures whole { IsTrue D.honest → IfOk result (λ made. NothingLost D.content made.0.tick made.0.from files) }
-    ensures stands { IsTrue D.honest → IfOk result (λ made. StandsOpened D.content D.may_leave files made.0.tick
+    ensures recovered { IsTrue D.honest
+        → IfOk result (λ made. RecoversTo D.content files made.1.front.live made.0) }
+    ensures whole { IsTrue D.honest
+        → IfOk result (λ made. NothingLost D.content made.0.tick made.0.from files) }
+    ensures stands { IsTrue D.honest
+        → IfOk result (λ made. StandsOpened D.content D.may_leave files made.0.tick
         made.1.front.live made.1.images made.1.log) }
     ensures keeps { IsTrue D.honest → IfOk result (λ made.
         KeepsWorld D.content D.may_leave files made.0.tick (files_of made.1.images made.1.log)) }
@@ -117,7 +126,8 @@ fn open_files<M: Seats, D: Disk + Drop, W, F: Front<M, D, W>>(
     ensures printed { IsTrue F.known → MatchResult result
         (λ made. F.printed front.new ≡ F.printed front.old ++ recovered_line made.0 ∷ [])
         (λ failure. F.printed front.new ≡ F.printed front.old ++ failure_lines failure) }
-    ensures doubtful { IsTrue F.known → IsTrue D.honest → IfOk result (λ made. (doubtful : Option Doubt)
+    ensures doubtful { IsTrue F.known → IsTrue D.honest
+        → IfOk result (λ made. (doubtful : Option Doubt)
         × DoubtfulIn D.content made.0.tick files (option_map (λ doubt. doubt.0) doubtful)
         × (F.noted front.new ≡ F.noted front.old ++ doubtful_lines doubtful)) }
     ensures ends { IfErr result EndsAsFailed }
@@ -146,8 +156,10 @@ fn announce<M: Method, D: Disk + Drop, W, F: Front<M, D, W>>(
     recovered: WorldReport,
     doubtful: Option<Doubtful>,
 )
-    ensures printed { IsTrue F.known → F.printed front.new ≡ F.printed front.old ++ recovered_line recovered ∷ [] }
-    ensures noted { IsTrue F.known → F.noted front.new ≡ F.noted front.old ++ doubtful_lines doubtful }
+    ensures printed { IsTrue F.known
+        → F.printed front.new ≡ F.printed front.old ++ recovered_line recovered ∷ [] }
+    ensures noted { IsTrue F.known
+        → F.noted front.new ≡ F.noted front.old ++ doubtful_lines doubtful }
 {
     front.print(Line::Recovered {
         ended: recovered.tick,
@@ -174,19 +186,24 @@ fn serve_opened<
     every: Every,
     admission: Admission,
 ) -> Result<Served<M, D>, WorldFailure<D>>
-    requires { IsWhole D.honest D.content opened.front opened.back opened.images opened.log opened.ended }
+    requires { IsWhole D.honest D.content opened.front opened.back opened.images
+        opened.log opened.ended }
     ensures recovered { IfOk result (λ served. served.recovered ≡ recovered) }
-    ensures opening { IfOk result (λ served. served.stopped.workers.mutator.opening ≡ opened.front.live) }
+    ensures opening { IfOk result (λ served.
+        served.stopped.workers.mutator.opening ≡ opened.front.live) }
     ensures sound { IsTrue D.honest → IfOk result (λ served.
         StaysSound D.content D.may_leave opened.front.live opened.images opened.log opened.ended
-        served.stopped.workers.mutator served.stopped.workers.checkpointer served.stopped.workers.log_writer) }
+        served.stopped.workers.mutator served.stopped.workers.checkpointer
+        served.stopped.workers.log_writer) }
     ensures in_turn { IfOk result (λ served.
-        PlaysInTurn served.stopped.workers.mutator.asks.taken served.stopped.workers.mutator.to.items) }
+        PlaysInTurn served.stopped.workers.mutator.asks.taken
+        served.stopped.workers.mutator.to.items) }
     ensures acked { IfOk result (λ served. opened.ended ≤ served.stopped.workers.log_writer.acked) }
     ensures left { IfErr result (GivesBack recovered (files_of opened.images opened.log)) }
     ensures printed { IsTrue F.known → MatchResult result
         (λ served. F.printed front.new ≡ F.printed front.old
-        ++ stopped_line served.stopped.workers.mutator served.stopped.workers.checkpointer served.stopped.workers.log_writer ∷ [])
+        ++ stopped_line served.stopped.workers.mutator served.stopped.workers.checkpointer
+        served.stopped.workers.log_writer ∷ [])
         (λ failure. F.printed front.new ≡ F.printed front.old) }
     ensures noted { IsTrue F.known → F.noted front.new ≡ F.noted front.old }
     ensures ends { IfErr result EndsAsFailed }
@@ -240,7 +257,8 @@ fn into_files<M: Method, D: Disk + Drop>(opened: Opened<M, D>) -> FourFiles<D>
 
 // The line of a server that has stopped.
 fn line_of<M: Method, D: Disk + Drop>(stopped: &Stopped<M, D, Open, Open, Open>) -> Line
-    ensures { result ≡ stopped_line stopped.now.workers.mutator stopped.now.workers.checkpointer stopped.now.workers.log_writer }
+    ensures { result ≡ stopped_line stopped.now.workers.mutator stopped.now.workers.checkpointer
+        stopped.now.workers.log_writer }
 {
     Line::Stopped {
         ended: stopped.workers.mutator.ended(),
@@ -266,7 +284,8 @@ impl<M: Method, D: Disk + Drop> Served<M, D> {
     /// How the program ends: by the log, else by the images, else by the listener.
     pub fn ending(&self) -> Ending
         ensures stops { StopsWith self.now.stopped.workers.log_writer.down
-            self.now.stopped.workers.checkpointer.images.keeper.phase self.now.stopped.accepted.closed result }
+            self.now.stopped.workers.checkpointer.images.keeper.phase
+            self.now.stopped.accepted.closed result }
         ensures ends { EndsServing result }
     {
         if self.stopped.workers.log_writer.is_down() {

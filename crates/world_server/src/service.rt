@@ -37,8 +37,8 @@ pub struct Service<'a> {
     pub idle: Option<u32>,
     /// After how many seconds its figures are printed, again and again; 0 for never.
     pub report: u32,
-    /// After how many seconds with its door closed the program ends, though clients are still there; without a number it
-    /// waits for them.
+    /// After how many seconds with its door closed the program ends, though clients are still
+    /// there; without a number it waits for them.
     pub exit_when_closed: Option<u32>,
     /// True if the program ends as soon as its log is down.
     pub exits_when_log_down: bool,

@@ -21,8 +21,8 @@ use worker_threads::Seats;
 use world_actions::Refusal;
 use world_folder::{Ending, Fault, NotRecovered, failure_of, open_existing, stands_in};
 
-/// Serves the world in a folder to so many clients. It prints which world was recovered, where it listens, and how far
-/// play came.
+/// Serves the world in a folder to so many clients. It prints which world was recovered, where it
+/// listens, and how far play came.
 pub fn serve<
     R: Threads
         + Wait
@@ -90,7 +90,8 @@ fn ending_of<M: Method>(
 ) -> Ending
     requires { IfErr served EndsAsFailed }
     ensures stops { MatchResult served (λ served. StopsWith served.stopped.workers.log_writer.down
-        served.stopped.workers.checkpointer.images.keeper.phase served.stopped.accepted.closed result)
+        served.stopped.workers.checkpointer.images.keeper.phase served.stopped.accepted.closed
+        result)
         (λ failure. EndsBy failure result) }
     ensures ends { EndsServing result }
 {

@@ -47,7 +47,8 @@ pub struct SocketFile {
 }
 
 impl SocketFile {
-    /// Removes the file, unless another one has its name by now, as that of a server that has begun since.
+    /// Removes the file, unless another one has its name by now, as that of a server that
+    /// has begun since.
     pub fn remove<R: Files>(&self, rt: &R) {
         let path = self.path.as_path();
         if let Ok(there) = fs::symlink_metadata(rt, path)
@@ -64,14 +65,15 @@ fn is_one_file(a: &Metadata, b: &Metadata) -> bool {
         && (a.mtime(), a.mtime_nsec()) == (b.mtime(), b.mtime_nsec())
 }
 
-/// How many bytes a socket's path may have. The system allows 107, and the file is made under a longer name.
+/// How many bytes a socket's path may have. The system allows 107, and the file is made
+/// under a longer name.
 const LONGEST_PATH: usize = 101;
 
 /// The permissions of the folder in which the file is made.
 const OWNER_ALONE: u32 = 0o700;
 
-/// Makes a socket at a path, and listens on it. The mode says who may connect from the first moment on. A socket that
-/// nobody listens on is replaced, and any other file at the path is refused.
+/// Makes a socket at a path, and listens on it. The mode says who may connect from the first moment
+/// on. A socket that nobody listens on is replaced, and any other file at the path is refused.
 pub fn listen_at<R: Files + Net + AllocGlobal>(
     rt: &R,
     path: &str,
@@ -91,7 +93,8 @@ pub fn listen_at<R: Files + Net + AllocGlobal>(
     Ok((Listener::Unix(listener), SocketFile { path: own, made }))
 }
 
-// Makes sure that no file is at a path. It removes a socket that nobody listens on, and refuses anything else.
+// Makes sure that no file is at a path. It removes a socket that nobody listens on, and
+// refuses anything else.
 fn clear<R: Files + Net>(rt: &R, path: &str) -> io::Result<()> {
     let there = match fs::symlink_metadata(rt, path) {
         Ok(there) => there,
@@ -128,8 +131,10 @@ fn obstacle(there: &Metadata) -> Option<&'static str>
 // Refuses a socket unless it is known that nobody listens on it, by how a connection to it went.
 fn unless_heard(answer: io::Result<UnixStream>) -> io::Result<()>
     ensures heard { IsOk answer → IsErr result }
-    ensures deserted { IfErr answer (λ error. error_kind error ≡ ErrorKind.ConnectionRefused → IsOk result) }
-    ensures unknown { IfErr answer (λ error. error_kind error ≢ ErrorKind.ConnectionRefused → result ≡ Err error) }
+    ensures deserted { IfErr answer (λ error. error_kind error ≡ ErrorKind.ConnectionRefused
+        → IsOk result) }
+    ensures unknown { IfErr answer (λ error. error_kind error ≢ ErrorKind.ConnectionRefused
+        → result ≡ Err error) }
 {
     match answer {
         Ok(_) => Err(io::Error::other("another program listens there")),
@@ -163,7 +168,8 @@ fn make_room<R: Files>(rt: &R, room: &str) -> io::Result<()> {
     }
 }
 
-// Makes the socket in the folder, sets its permissions, and then gives it its own name, which no other file may have.
+// Makes the socket in the folder, sets its permissions, and then gives it its own name, which no
+// other file may have.
 fn make<R: Files + Net>(
     rt: &R,
     first: &str,
@@ -177,8 +183,8 @@ fn make<R: Files + Net>(
     Ok((listener, made))
 }
 
-// Removes the socket's first name and the folder, also those of a server that was killed as it began. It leaves a folder
-// that has anything else.
+// Removes the socket's first name and the folder, also those of a server that was killed as it
+// began. It leaves a folder that has anything else.
 fn sweep<R: Files>(rt: &R, room: &str, first: &str) {
     if let Ok(there) = fs::symlink_metadata(rt, first)
         && there.file_type().is_socket()

@@ -1,4 +1,5 @@
-//! The state of a running server that its threads share: what is down, and whether it is to be left.
+//! The state of a running server that its threads share: what is down, and whether it
+//! is to be left.
 ghost use Rattle.std.specs.Prelude.{◌≡◌, ◌↔◌, ◌≤◌, ◌*◌, IsTrue};
 ghost use Rattle.std.specs.Duration.{as_nanos};
 ghost use Rattle.world_server.specs.Serving.{EndsServing, left_ending};
@@ -65,8 +66,8 @@ impl Standing {
     }
 }
 
-/// How the program ends if its server is left: by its log, else by its images, else by its listener. If none is down it
-/// ends well: what it answered is durable, as after its own end.
+/// How the program ends if its server is left: by its log, else by its images, else by its
+/// listener. If none is down it ends well: what it answered is durable, as after its own end.
 pub fn ending_of_left(lost: Losses) -> Ending
     ensures left { result ≡ left_ending lost }
     ensures ends { EndsServing result }

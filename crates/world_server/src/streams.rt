@@ -53,8 +53,8 @@ impl Streams {
         })
     }
 
-    /// Waits until the lines have left, or for some seconds if a stream isn't read, and ends the program so. A server
-    /// that ended well ends with a fault if its output couldn't be printed.
+    /// Waits until the lines have left, or for some seconds if a stream isn't read, and ends the
+    /// program so. A server that ended well ends with a fault if its output couldn't be printed.
     pub fn finish<R: Wait + Clock>(self, rt: &R, ending: Ending) -> Ending
         ensures ends { EndsServing ending → EndsServing result }
         ensures other { ending ≢ Ending.Ran → result ≡ ending }

@@ -82,8 +82,9 @@ impl<
         }
     }
 
-    /// Stops listening, waits until the lines have left, or for some seconds if a stream isn't read, and ends the program
-    /// so. A server that ended well ends with a fault if its output couldn't be printed.
+    /// Stops listening, waits until the lines have left, or for some seconds if a stream isn't
+    /// read, and ends the program so. A server that ended well ends with a fault if its output
+    /// couldn't be printed.
     pub fn finish(self, ending: Ending) -> Ending
         ensures ends { EndsServing ending → EndsServing result }
         ensures other { ending ≢ Ending.Ran → result ≡ ending }
@@ -194,7 +195,8 @@ fn newest_image<D: Disk>(images: &ImageWriter<D>) -> u64
     }
 }
 
-// The counts of the server of this world, if its figures are printed. Their thread begins with them.
+// The counts of the server of this world, if its figures are printed. Their thread
+// begins with them.
 fn pulse_for<R: Wait + AllocGlobal, M: Method>(
     rt: &R,
     reports: &Option<Sender<Arc<Pulse, Global>>>,

@@ -17,25 +17,30 @@ pub record AreClosed (image_a image_b log_a log_b : List ℕ) : Type 0 where
   pub log_b_closed : IsSegment log_b ClosedSegment
 
 abbrev pub FilesAreClosed : {D : Type 0} → (file : D → List ℕ) → FourFiles D → Type 0
-FilesAreClosed file files = AreClosed (file files.image_a) (file files.image_b) (file files.log_a) (file files.log_b)
+FilesAreClosed file files =
+    AreClosed (file files.image_a) (file files.image_b) (file files.log_a) (file files.log_b)
 
 module _ {D : Type 0} (file : D → List ℕ) (leaves : D → List ℕ → Type 0) where
   -- whatever a crash leaves of the files is no world yet, or one of these first words at tick 0
   abbrev pub AreFreshOrSound : FourFiles D → (first : List ℕ) → Type 0
   AreFreshOrSound files first =
-      IsFresh (leaves files.image_a) (leaves files.image_b) (leaves files.log_a) (leaves files.log_b) first ⊎ AreSound file leaves files first [] 0
+      IsFresh (leaves files.image_a) (leaves files.image_b) (leaves files.log_a)
+      (leaves files.log_b) first ⊎ AreSound file leaves files first [] 0
 
-  -- The files held no world, and log.a is now open. If the files were synced, they now hold a world of zeros at tick 0 and
-  -- are synced again.
+  -- The files held no world, and log.a is now open. If the files were synced, they now hold a world
+  -- of zeros at tick 0 and are synced again.
   pub record AreMade (files : FourFiles D) (cells : ℕ) (made : FourFiles D) : Type 0 where
     pub closed : FilesAreClosed file files
     pub sound : AreSynced file leaves files → AreSound file leaves made (replicate cells 0) [] 0
     pub synced : AreSynced file leaves files → AreSynced file leaves made
     pub log : IsSegment (file made.log_a) (OpenSegment 0 [])
 
-  -- No world was made: the files hold one, memory ran out, or a device failed. Unless a device failed, the files were only
-  -- read. If they were synced and held no world, whatever a crash leaves of them is no world yet, or one of zeros at tick 0.
-  pub record AreNotMade (files : FourFiles D) (cells : ℕ) (refusal : Refusal) (left : FourFiles D) : Type 0 where
+  -- No world was made: the files hold one, memory ran out, or a device failed. Unless a device
+  -- failed, the files were only read. If they were synced and held no world, whatever a crash
+  -- leaves of them is no world yet, or one of zeros at tick 0.
+  pub record AreNotMade (files : FourFiles D) (cells : ℕ) (refusal : Refusal)
+      (left : FourFiles D) : Type 0 where
     pub not_empty : refusal ≡ NotEmpty → ¬ FilesAreClosed file files
     pub kept : refusal ≢ Device → EachFile files left (KeepsFile file leaves)
-    pub safe : AreSynced file leaves files → FilesAreClosed file files → AreFreshOrSound left (replicate cells 0)
+    pub safe : AreSynced file leaves files → FilesAreClosed file files
+        → AreFreshOrSound left (replicate cells 0)

@@ -1,5 +1,6 @@
 -- The result of recovering the files of a world, and the definition of sound files.
-use Rattle.std.specs.Prelude.{◌≡◌, ◌⊎◌, ◌<◌, ◌≤◌, ℕ, Bool, IsTrue, List, [], length, take, slice_index, Ok, Err}
+use Rattle.std.specs.Prelude.{◌≡◌, ◌⊎◌, ◌<◌, ◌≤◌, ℕ, Bool, IsTrue, List, [], length, take}
+use Rattle.std.specs.Prelude.{slice_index, Ok, Err}
 use Rattle.world_actions.specs.declared.action.Action.{Action}
 use Rattle.world_actions.specs.declared.refusal.Refusal.{Refusal}
 use Rattle.world_actions.specs.declared.refusal.Refusal.TheVariants.{Device, NoMemory}
@@ -23,23 +24,31 @@ module _ {D : Type 0} (file : D → List ℕ) (leaves : D → List ℕ → Type 
     pub log_a : Only (file files.log_a) (leaves files.log_a)
     pub log_b : Only (file files.log_b) (leaves files.log_b)
 
-  -- Whatever a crash leaves of the files, recovery gives the world after the first n of these ticks from these first words,
-  -- for some n not below the acknowledged count. Each open image is the world after its tick.
-  abbrev pub AreSound : FourFiles D → (first : List ℕ) → List (List Action) → (acknowledged : ℕ) → Type 0
-  AreSound files first ticks acknowledged = IsSound (leaves files.image_a) (leaves files.image_b) (leaves files.log_a) (leaves files.log_b) first ticks acknowledged
+  -- Whatever a crash leaves of the files, recovery gives the world after the first n of these ticks
+  -- from these first words, for some n not below the acknowledged count. Each open image is the
+  -- world after its tick.
+  abbrev pub AreSound : FourFiles D → (first : List ℕ) → List (List Action)
+      → (acknowledged : ℕ) → Type 0
+  AreSound files first ticks acknowledged =
+      IsSound (leaves files.image_a) (leaves files.image_b) (leaves files.log_a)
+      (leaves files.log_b) first ticks acknowledged
 
 module _ {D : Type 0} (file : D → List ℕ) (leaves : D → List ℕ → Type 0) where
-  -- Nothing of the files is unsynced. They are sound for these ticks and this acknowledged count, or those of a new world, of
-  -- which no tick has ended.
-  pub record AreOfWorld (files : FourFiles D) (first : List ℕ) (ticks : List (List Action)) (acknowledged : ℕ) : Type 0 where
+  -- Nothing of the files is unsynced. They are sound for these ticks and this acknowledged count,
+  -- or those of a new world, of which no tick has ended.
+  pub record AreOfWorld (files : FourFiles D) (first : List ℕ) (ticks : List (List Action))
+      (acknowledged : ℕ) : Type 0 where
     pub synced : AreSynced file leaves files
     pub world : AreSound file leaves files first ticks acknowledged
-        ⊎ (IsFresh (leaves files.image_a) (leaves files.image_b) (leaves files.log_a) (leaves files.log_b) first × (ticks ≡ []) × (acknowledged ≡ 0))
+        ⊎ (IsFresh (leaves files.image_a) (leaves files.image_b) (leaves files.log_a)
+        (leaves files.log_b) first × (ticks ≡ []) × (acknowledged ≡ 0))
 
 module _ {D : Type 0} (file : D → List ℕ) where
   -- recovery of the bytes that reads of the files give has this result
   abbrev pub RecoversFiles : FourFiles D → Recovery → Type 0
-  RecoversFiles files r = Recovers (file files.image_a) (file files.image_b) (file files.log_a) (file files.log_b) (Ok r)
+  RecoversFiles files r =
+      Recovers (file files.image_a) (file files.image_b) (file files.log_a)
+      (file files.log_b) (Ok r)
 
   -- these bytes are what reads of the files give
   pub record AreRead (files : FourFiles D) (image_a image_b log_a log_b : List ℕ) : Type 0 where
@@ -48,23 +57,30 @@ module _ {D : Type 0} (file : D → List ℕ) where
     pub log_a_is : log_a ≡ file files.log_a
     pub log_b_is : log_b ≡ file files.log_b
 
--- The reasons why no world is recovered: memory ran out, a device failed, or recovery refuses the bytes that were read. On
--- files that keep to the disk model, those bytes are what the files hold.
-abbrev pub IsRefused : {D : Type 0} → (file : D → List ℕ) → (honest : Bool) → FourFiles D → Refusal → Type 0
+-- The reasons why no world is recovered: memory ran out, a device failed, or recovery refuses the
+-- bytes that were read. On files that keep to the disk model, those bytes are what the files hold.
+abbrev pub IsRefused : {D : Type 0} → (file : D → List ℕ) → (honest : Bool)
+    → FourFiles D → Refusal → Type 0
 IsRefused file honest files refusal =
     (refusal ≡ NoMemory) ⊎ ((refusal ≡ Device)
-    ⊎ ((image_a image_b log_a log_b : List ℕ) × Recovers image_a image_b log_a log_b (Err refusal) × (IsTrue honest → AreRead file files image_a image_b log_a log_b)))
+    ⊎ ((image_a image_b log_a log_b : List ℕ) × Recovers image_a image_b log_a log_b (Err refusal)
+    × (IsTrue honest → AreRead file files image_a image_b log_a log_b)))
 
 -- one of these counts of faults grew, except at its last value
 abbrev pub SomeGrew : List ℕ → List ℕ → Type 0
-SomeGrew old new = (place : ℕ) × (place < length old) × Grew (slice_index old place) (slice_index new place)
+SomeGrew old new =
+    (place : ℕ) × (place < length old) × Grew (slice_index old place) (slice_index new place)
 
 -- a refusal by a device comes only if the count of a file's faults grew
-abbrev pub HasFaulted : {D : Type 0} → (faults : D → ℕ) → (files left : FourFiles D) → Refusal → Type 0
-HasFaulted faults files left refusal = refusal ≡ Device → SomeGrew (fault_counts faults files) (fault_counts faults left)
+abbrev pub HasFaulted : {D : Type 0} → (faults : D → ℕ)
+    → (files left : FourFiles D) → Refusal → Type 0
+HasFaulted faults files left refusal =
+    refusal ≡ Device → SomeGrew (fault_counts faults files) (fault_counts faults left)
 
--- recovery of some bytes has this result; on files that keep to the disk model, the bytes are what the files hold
-pub record RecoversBytes {D : Type 0} (file : D → List ℕ) (honest : Bool) (files : FourFiles D) : Type 0 where
+-- recovery of some bytes has this result; on files that keep to the disk model, the bytes are
+-- what the files hold
+pub record RecoversBytes {D : Type 0} (file : D → List ℕ) (honest : Bool)
+    (files : FourFiles D) : Type 0 where
   pub image_a : List ℕ
   pub image_b : List ℕ
   pub log_a : List ℕ
@@ -74,7 +90,8 @@ pub record RecoversBytes {D : Type 0} (file : D → List ℕ) (honest : Bool) (f
   pub read : IsTrue honest → AreRead file files image_a image_b log_a log_b
 
 -- the engine and these ticks agree with the recovery
-pub record IsRecovered {C D : Type 0} (content : C → Content) (file : D → List ℕ) (honest : Bool) (files : FourFiles D) (engine : Engine C) (tick from : ℕ) : Type 0 where
+pub record IsRecovered {C D : Type 0} (content : C → Content) (file : D → List ℕ) (honest : Bool)
+    (files : FourFiles D) (engine : Engine C) (tick from : ℕ) : Type 0 where
   pub bytes : RecoversBytes file honest files
   pub open bytes use *
   pub tick_is : tick ≡ recovery.tick
@@ -83,7 +100,8 @@ pub record IsRecovered {C D : Type 0} (content : C → Content) (file : D → Li
   pub ended : engine.ended ≡ recovery.tick
 
 -- the engine agrees with the recovery of the files, and no tick has ended since
-pub record MatchesRecovery {C D : Type 0} (content : C → Content) (file : D → List ℕ) (files : FourFiles D) (engine : Engine C) (from : ℕ) : Type 0 where
+pub record MatchesRecovery {C D : Type 0} (content : C → Content) (file : D → List ℕ)
+    (files : FourFiles D) (engine : Engine C) (from : ℕ) : Type 0 where
   pub recovery : Recovery
   pub recovers : RecoversFiles file files recovery
   pub is_from : from ≡ recovery.from
@@ -91,12 +109,17 @@ pub record MatchesRecovery {C D : Type 0} (content : C → Content) (file : D �
   pub ended : engine.ended ≡ recovery.tick
   pub since : engine.since ≡ 0
 
-module _ {C D : Type 0} (content : C → Content) (file : D → List ℕ) (leaves : D → List ℕ → Type 0) where
-  -- The engine begins the start of the recovered world. If the files were those of a world, it follows the recovered ones of
-  -- its ticks. All acknowledged ticks are among these, and each of these counts as acknowledged.
-  pub record IsRead (files : FourFiles D) (engine : Engine C) (from : ℕ) (left : FourFiles D) : Type 0 where
+module _ {C D : Type 0} (content : C → Content) (file : D → List ℕ)
+    (leaves : D → List ℕ → Type 0) where
+  -- The engine begins the start of the recovered world. If the files were those of a world, it
+  -- follows the recovered ones of its ticks. All acknowledged ticks are among these, and each of
+  -- these counts as acknowledged.
+  pub record IsRead (files : FourFiles D) (engine : Engine C) (from : ℕ)
+      (left : FourFiles D) : Type 0 where
     pub matches : MatchesRecovery content file files engine from
     pub open matches use *
     pub newest : HasNewest engine.images
-    pub follows : (first : List ℕ) (ticks : List (List Action)) (acknowledged : ℕ) → AreOfWorld file leaves files first ticks acknowledged
-        → (acknowledged ≤ recovery.tick) × Follows content file leaves engine left first (take recovery.tick ticks) recovery.tick
+    pub follows : (first : List ℕ) (ticks : List (List Action)) (acknowledged : ℕ)
+        → AreOfWorld file leaves files first ticks acknowledged
+        → (acknowledged ≤ recovery.tick)
+        × Follows content file leaves engine left first (take recovery.tick ticks) recovery.tick

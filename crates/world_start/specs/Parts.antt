@@ -21,27 +21,33 @@ pub record LogIsReady (log : LogProgress) (ended since : ℕ) : Type 0 where
   pub all : log.base + since ≡ ended
 
 module _ {D : Type 0} (file : D → List ℕ) (honest : Bool) where
-  -- The start is over, and neither keeper has work left, unless it is down. They fit the words, and the files too if those
-  -- keep to the disk model.
+  -- The start is over, and neither keeper has work left, unless it is down. They fit the words, and
+  -- the files too if those keep to the disk model.
   pub record AreAtRest (parts : Parts D) : Type 0 where
     pub words : All IsWord parts.words.items
     pub cells : parts.images.cells ≡ length parts.words.items
-    pub images_fit : IsTrue honest → ImagesFit parts.images (file parts.files.image_a) (file parts.files.image_b)
+    pub images_fit : IsTrue honest
+        → ImagesFit parts.images (file parts.files.image_a) (file parts.files.image_b)
     pub images_over : (parts.images.phase ≡ Idle) ⊎ (parts.images.phase ≡ Down)
-    pub log_fits : IsTrue honest → LogFits parts.log (file parts.files.log_a) (file parts.files.log_b)
+    pub log_fits : IsTrue honest
+        → LogFits parts.log (file parts.files.log_a) (file parts.files.log_b)
     pub started : parts.log.starting ≡ false
     pub log_ready : parts.log.down ≡ false → LogIsReady parts.log parts.ended parts.since
     pub within : parts.since ≤ parts.ended
     pub most : parts.ended ≤ TICK_MAX
 
 module _ {D : Type 0} (file : D → List ℕ) (leaves : D → List ℕ → Type 0) where
-  -- From these first words these ticks have ended, and the parts hold a world at rest after them. Both keepers with their
-  -- files represent it.
-  pub record AreSettled (parts : Parts D) (first : List ℕ) (ticks : List (List Action)) : Type 0 where
+  -- From these first words these ticks have ended, and the parts hold a world at rest after them.
+  -- Both keepers with their files represent it.
+  pub record AreSettled (parts : Parts D) (first : List ℕ)
+      (ticks : List (List Action)) : Type 0 where
     pub cells : parts.images.cells ≡ length first
     pub images : Images
     pub logs : Logs
     pub settled : IsSettled first ticks parts.words.items images logs
-    pub has_images : ImagesStand parts.images (Newest images) (file parts.files.image_a) (file parts.files.image_b) (leaves parts.files.image_a) (leaves parts.files.image_b)
-    pub has_log : LogStands parts.log (file parts.files.log_a) (file parts.files.log_b) (leaves parts.files.log_a) (leaves parts.files.log_b) (record { journal = Writing logs; left = 0 })
+    pub has_images : ImagesStand parts.images (Newest images) (file parts.files.image_a)
+        (file parts.files.image_b) (leaves parts.files.image_a) (leaves parts.files.image_b)
+    pub has_log : LogStands parts.log (file parts.files.log_a) (file parts.files.log_b)
+        (leaves parts.files.log_a) (leaves parts.files.log_b)
+        (record { journal = Writing logs; left = 0 })
     pub ended : parts.ended ≡ length ticks

@@ -8,8 +8,8 @@ use disk_model::FourFiles;
 use image_files::{ImageState, read_image};
 use std::alloc::Global;
 
-/// True if none of four files holds an image or a segment. An open file isn't closed, even if memory runs out when it is
-/// read.
+/// True if none of four files holds an image or a segment. An open file isn't closed, even if
+/// memory runs out when it is read.
 pub fn are_closed(alloc: Global, bytes: &FourFiles<Vec<u8>>) -> bool
     ensures { IsTrue result ↔ AreClosed bytes.now.image_a.items bytes.now.image_b.items
         bytes.now.log_a.items bytes.now.log_b.items }

@@ -18,8 +18,9 @@ use restart::{worlds_are_safe, zeros};
 use std::alloc::Global;
 use world_actions::Refusal;
 
-/// Makes the files of a world of zeros at tick 0 from files that hold no world, by the start of a fresh world. It refuses
-/// with `NotEmpty` if one of them isn't closed. If it refuses, it gives the files back.
+/// Makes the files of a world of zeros at tick 0 from files that hold no world, by the start of
+/// a fresh world. It refuses with `NotEmpty` if one of them isn't closed. If it refuses, it
+/// gives the files back.
 pub fn fresh_files<D: Disk>(
     alloc: Global,
     cells: u32,
@@ -32,7 +33,8 @@ pub fn fresh_files<D: Disk>(
     ensures left { IsTrue D.honest → IfErr result (λ refused.
         AreNotMade D.content D.may_leave files cells refused.1 refused.0) }
     ensures device { IfErr result (λ refused. HasFaulted D.faults files refused.0 refused.1) }
-    ensures no_fault { IfOk result (λ made. fault_counts D.faults made ≡ fault_counts D.faults files) }
+    ensures no_fault { IfOk result (λ made. fault_counts D.faults made
+        ≡ fault_counts D.faults files) }
 {
     let mut files = files;
     match make_fresh::<PlainCopy, D>(alloc, cells, &mut files) {
@@ -47,13 +49,15 @@ fn make_fresh<C: Capture, D: Disk>(
     files: &mut FourFiles<D>,
 ) -> Result<(), Refusal>
     requires { (1 ≤ cells) × (cells ≤ CELLS) }
-    ensures made { IsTrue D.honest → OnOk result (AreMade D.content D.may_leave files.old cells files.new) }
+    ensures made { IsTrue D.honest
+        → OnOk result (AreMade D.content D.may_leave files.old cells files.new) }
     ensures refused { IfErr result (λ refusal. (refusal ≡ Refusal.NotEmpty)
         ⊎ ((refusal ≡ Refusal.NoMemory) ⊎ (refusal ≡ Refusal.Device))) }
     ensures left { IsTrue D.honest → IfErr result (λ refusal.
         AreNotMade D.content D.may_leave files.old cells refusal files.new) }
     ensures device { IfErr result (HasFaulted D.faults files.old files.new) }
-    ensures no_fault { OnOk result (fault_counts D.faults files.new ≡ fault_counts D.faults files.old) }
+    ensures no_fault { OnOk result
+        (fault_counts D.faults files.new ≡ fault_counts D.faults files.old) }
 {
     images_stay::<D>();
     log_outcomes::<D>();
@@ -69,8 +73,10 @@ fn begin_fresh<C: Capture, D: Disk>(
     files: &mut FourFiles<D>,
 ) -> Result<Engine<C>, Refusal>
     requires { (1 ≤ cells) × (cells ≤ CELLS) }
-    ensures kept { IsTrue D.honest → EachFile files.old files.new (KeepsFile D.content D.may_leave) }
-    ensures images { IfOk result (λ engine. ImagesInOrder C.content D.content D.honest engine files.new) }
+    ensures kept { IsTrue D.honest
+        → EachFile files.old files.new (KeepsFile D.content D.may_leave) }
+    ensures images { IfOk result (λ engine.
+        ImagesInOrder C.content D.content D.honest engine files.new) }
     ensures log { IfOk result (λ engine. LogInOrder C.content D.content D.honest engine files.new) }
     ensures begun { IsTrue D.honest → IfOk result (λ engine.
         IsBegunFresh C.content D.content D.may_leave files.old cells engine files.new) }
@@ -78,7 +84,8 @@ fn begin_fresh<C: Capture, D: Disk>(
         ⊎ ((refusal ≡ Refusal.NoMemory) ⊎ (refusal ≡ Refusal.Device))) }
     ensures not_empty { IsTrue D.honest → IfErr result (λ refusal.
         refusal ≡ Refusal.NotEmpty → ¬ FilesAreClosed D.content files.old) }
-    ensures up { IfOk result (λ engine. (engine.images.phase ≡ Down → ⊥) × (engine.log.down ≡ false)) }
+    ensures up { IfOk result (λ engine. (engine.images.phase ≡ Down → ⊥)
+        × (engine.log.down ≡ false)) }
     ensures no_fault { IfOk result (λ engine.
         fault_counts D.faults files.new ≡ fault_counts D.faults files.old) }
     ensures device { IfErr result (HasFaulted D.faults files.old files.new) }

@@ -13,14 +13,18 @@ use disk_model::Disk;
 use image_files::images_stay;
 use restart::{gates_are_reported, worlds_are_safe, worlds_go_on};
 
-/// Laws: the files of a world that follows its ticks are sound for them and the acknowledged count, once there is an image.
-/// After a start there is an image.
+/// Laws: the files of a world that follows its ticks are sound for them and the acknowledged count,
+/// once there is an image. After a start there is an image.
 pub fn followed_files_are_sound<C: Capture, D: Disk>()
-    ensures begun { (engine : Engine C) (files : FourFiles D) (first : List ℕ) (ticks : List (List Action)) (acknowledged : ℕ)
-        → HasNewest engine.images → Follows C.content D.content D.may_leave engine files first ticks acknowledged
+    ensures begun { (engine : Engine C) (files : FourFiles D) (first : List ℕ)
+        (ticks : List (List Action)) (acknowledged : ℕ)
+        → HasNewest engine.images
+        → Follows C.content D.content D.may_leave engine files first ticks acknowledged
         → AreSound D.content D.may_leave files first ticks acknowledged }
-    ensures started { (engine : Engine C) (files : FourFiles D) (first : List ℕ) (ticks : List (List Action)) (acknowledged : ℕ)
-        → engine.log.starting ≡ false → Follows C.content D.content D.may_leave engine files first ticks acknowledged
+    ensures started { (engine : Engine C) (files : FourFiles D) (first : List ℕ)
+        (ticks : List (List Action)) (acknowledged : ℕ)
+        → engine.log.starting ≡ false
+        → Follows C.content D.content D.may_leave engine files first ticks acknowledged
         → AreSound D.content D.may_leave files first ticks acknowledged }
 {
     images_stay::<D>();
@@ -28,8 +32,8 @@ pub fn followed_files_are_sound<C: Capture, D: Disk>()
     worlds_are_safe::<D>();
 }
 
-/// Laws: on files of which nothing is unsynced, new keepers with their files represent images and a log. A world in step
-/// stays in step.
+/// Laws: on files of which nothing is unsynced, new keepers with their files represent images and a
+/// log. A world in step stays in step.
 pub fn starts_begin<D: Disk>()
     ensures { StartLaws D.content D.may_leave }
 {

@@ -24,12 +24,15 @@ pub fn run_log<D: Disk>(
     ensures ring { queue.new.capacity ≡ queue.old.capacity }
     ensures end { end_of keeper.new queue.new.items ≡ end_of keeper.old queue.old.items }
     ensures started { keeper.old.starting ≡ false → keeper.new.starting ≡ false }
-    ensures first { keeper.old.starting ≡ true → queue.old.items ≡ [] → IsFirst keeper.new queue.new.items }
+    ensures first { keeper.old.starting ≡ true → queue.old.items ≡ []
+        → IsFirst keeper.new queue.new.items }
     ensures over { (keeper.new.down ≡ true) ⊎ (work_of keeper.new queue.new.items ≡ 0) }
-    ensures faults { LogFaults keeper.old.down keeper.new.down (D.faults log_a.old) (D.faults log_a.new)
+    ensures faults { LogFaults keeper.old.down keeper.new.down
+        (D.faults log_a.old) (D.faults log_a.new)
         (D.faults log_b.old) (D.faults log_b.new) }
     ensures goes { IsTrue D.honest → LogGoes D.content D.may_leave
-        keeper.old keeper.new queue.old.items queue.new.items log_a.old log_a.new log_b.old log_b.new }
+        keeper.old keeper.new queue.old.items queue.new.items log_a.old
+        log_a.new log_b.old log_b.new }
 {
     worlds_go_on();
     while keeper.has_work(queue) {

@@ -27,7 +27,8 @@ pub struct Parts<D: Disk> {
 }
 
 impl<C: Capture> Engine<C> {
-    /// Takes apart a world at rest that has these words and files. It takes no memory, and copies no word.
+    /// Takes apart a world at rest that has these words and files. It takes no memory,
+    /// and copies no word.
     pub fn into_parts<D: Disk>(self, words: Vec<u64>, files: FourFiles<D>) -> Parts<D>
         requires rest { IsAtRest C.content D.content D.honest self files }
         requires words { words.items ≡ (C.content self.store).live }

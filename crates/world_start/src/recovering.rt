@@ -23,13 +23,14 @@ pub struct Start<C: Capture> {
     pub from: u64,
 }
 
-/// Recovers the world in the files, which are only read. Its start, which is still to be run, is the first to write. It
-/// takes all memory that the world needs besides its batches.
+/// Recovers the world in the files, which are only read. Its start, which is still to be run, is
+/// the first to write. It takes all memory that the world needs besides its batches.
 pub fn recover_world<C: Capture, D: Disk>(
     alloc: Global,
     files: &mut FourFiles<D>,
 ) -> Result<Start<C>, Refusal>
-    ensures kept { IsTrue D.honest → EachFile files.old files.new (KeepsFile D.content D.may_leave) }
+    ensures kept { IsTrue D.honest
+        → EachFile files.old files.new (KeepsFile D.content D.may_leave) }
     ensures ahead { IfOk result (λ begun. IsAhead C.content D.content D.honest begun files.new) }
     ensures recovered { IfOk result (λ begun. IsRecovered C.content D.content D.honest files.old
         begun.engine begun.engine.ended begun.from) }

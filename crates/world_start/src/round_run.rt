@@ -25,7 +25,8 @@ pub fn run_round<C: Capture, D: Disk>(
     ensures same_cells { keeper.new.cells ≡ keeper.old.cells }
     ensures ticks { RoundTick keeper.old keeper.new }
     ensures live { (C.content store.new).live ≡ (C.content store.old).live }
-    ensures faults { RoundFaults keeper.old.phase keeper.new.phase (D.faults image_a.old) (D.faults image_a.new)
+    ensures faults { RoundFaults keeper.old.phase keeper.new.phase
+        (D.faults image_a.old) (D.faults image_a.new)
         (D.faults image_b.old) (D.faults image_b.new) }
     ensures goes { IsTrue D.honest → RoundGoes C.content D.content D.may_leave
         keeper.old keeper.new store.old store.new image_a.old image_a.new image_b.old image_b.new }

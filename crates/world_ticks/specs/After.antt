@@ -13,7 +13,8 @@ and_then (Err e) next = Err e
 -- the world after actions in order, or the refusal of the first one that is refused
 abbrev pub after_actions : List ℕ → List Action → Result (List ℕ) Refusal
 after_actions world [] = Ok world
-after_actions world (action ∷ actions) = and_then (effect world action) (λ next. after_actions next actions)
+after_actions world (action ∷ actions) =
+    and_then (effect world action) (λ next. after_actions next actions)
 
 -- the world after these ticks, from the words of a first world
 abbrev pub after_ticks : List ℕ → List (List Action) → Result (List ℕ) Refusal
@@ -27,7 +28,9 @@ writes_then (Err refusal) writes more = []
 -- the writes of the actions before the first refused one, in order
 abbrev pub accepted_writes : List ℕ → List Action → List Write
 accepted_writes world [] = []
-accepted_writes world (action ∷ actions) = writes_then (effect world action) (writes_of world action) (λ next. accepted_writes next actions)
+accepted_writes world (action ∷ actions) =
+    writes_then (effect world action) (writes_of world action)
+    (λ next. accepted_writes next actions)
 
 -- these words are the world after the actions before the first refused one
 pub record StopsAt (world : List ℕ) (actions : List Action) (words : List ℕ) : Type 0 where

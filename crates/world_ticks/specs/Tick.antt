@@ -11,6 +11,8 @@ pub record Actions : Type 0 where
   pub list : List Action
   pub room : ℕ
 
--- the world after one more action of a running tick, or the reason why it is refused; a full tick is the first reason
+-- the world after one more action of a running tick, or the reason why it is refused; a full tick
+-- is the first reason
 abbrev pub decision : List ℕ → List Action → Action → Result (List ℕ) Refusal
-decision world running action = if nat_le TICK_ACTIONS (length running) then Err TickFull else effect world action
+decision world running action =
+    if nat_le TICK_ACTIONS (length running) then Err TickFull else effect world action

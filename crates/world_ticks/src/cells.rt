@@ -7,8 +7,8 @@ pub trait Cells {
     /// The words, in the order of their cells.
     ghost words: { Self → List ℕ };
 
-    /// One access may lead from the first state to the second. Each store defines it. So the effect of a list of accesses
-    /// is known for the store's whole state, not only for its words.
+    /// One access may lead from the first state to the second. Each store defines it. So the effect
+    /// of a list of accesses is known for the store's whole state, not only for its words.
     ghost accessed: { Self → Access → Self → Type 0 };
 
     /// Returns the number of cells.

@@ -1,4 +1,5 @@
-ghost use Rattle.std.specs.Prelude.{◌≡◌, ◌≢◌, ◌+◌, ◌<◌, ◌≤◌, [], ◌∷◌, ◌++◌, length, slice_index, Ok, Err, IsOk, IsErr, OnOk, OnErr, IfOk, IfErr, IfSome};
+ghost use Rattle.std.specs.Prelude.{◌≡◌, ◌≢◌, ◌+◌, ◌<◌, ◌≤◌, [], ◌∷◌, ◌++◌, length, slice_index};
+ghost use Rattle.std.specs.Prelude.{Ok, Err, IsOk, IsErr, OnOk, OnErr, IfOk, IfErr, IfSome};
 ghost use Rattle.std.specs.Result.{result_err};
 ghost use Rattle.world_actions.specs.Action.{first_cell, second_cell};
 ghost use Rattle.world_actions.specs.World.{IsWord};
@@ -11,8 +12,9 @@ use crate::cells::Cells;
 use crate::tick::Tick;
 use world_actions::{Action, Change, Refusal, check};
 
-/// Does an action on the cells and adds it to the running tick, or refuses it. It refuses with `TickFull` first, then
-/// with the refusal of `check`, then with `NoMemory`. The memory for the tick is taken before a cell is written.
+/// Does an action on the cells and adds it to the running tick, or refuses it. It refuses with
+/// `TickFull` first, then with the refusal of `check`, then with `NoMemory`. The memory for the
+/// tick is taken before a cell is written.
 pub fn act<C: Cells>(c: &mut C, t: &mut Tick, a: Action) -> Result<(), Refusal>
     ensures done { OnOk result ((decision (C.words c.old) t.old.list a ≡ Ok (C.words c.new))
         × (t.new.list ≡ t.old.list ++ a ∷ [])) }
@@ -37,8 +39,8 @@ pub fn act<C: Cells>(c: &mut C, t: &mut Tick, a: Action) -> Result<(), Refusal>
     Ok(())
 }
 
-/// Does actions in order. If one is refused, it stops and returns `BadLog`; the actions before that one stay done. It
-/// takes no memory.
+/// Does actions in order. If one is refused, it stops and returns `BadLog`; the actions before that
+/// one stay done. It takes no memory.
 pub fn replay<C: Cells>(c: &mut C, actions: &[Action]) -> Result<(), Refusal>
     ensures done { OnOk result (after_actions (C.words c.old) actions.now ≡ Ok (C.words c.new)) }
     ensures refused { IfErr result (λ refusal. (refusal ≡ Refusal.BadLog)
@@ -58,7 +60,8 @@ pub fn replay<C: Cells>(c: &mut C, actions: &[Action]) -> Result<(), Refusal>
 // Decides an action from the words of its cells. It only reads.
 fn decided<C: Cells>(c: &mut C, a: &Action) -> Result<Change, Refusal>
     ensures refuses { refusal_of (C.words c.old) a.now ≡ result_err result }
-    ensures writes { IfOk result (λ change. writes_of (C.words c.old) a.now ≡ change_writes a.now change) }
+    ensures writes { IfOk result (λ change. writes_of (C.words c.old) a.now
+        ≡ change_writes a.now change) }
     ensures inside { OnOk result ((first_cell a.now < length (C.words c.new))
         × (second_cell a.now < length (C.words c.new))) }
     ensures limit { IfOk result (λ change. IsWord change.first × IfSome change.second IsWord) }

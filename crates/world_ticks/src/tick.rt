@@ -8,8 +8,8 @@ pub const TICK_ACTIONS: usize = 256;
 /// The greatest tick number.
 pub const TICK_MAX: u64 = 1_000_000_000_000_000_000;
 
-/// The accepted actions of one batch, in order. Contracts see the actions, and the number of further ones for which it
-/// has memory.
+/// The accepted actions of one batch, in order. Contracts see the actions, and the number of
+/// further ones for which it has memory.
 #[derive(Drop)]
 pub struct Tick {
     actions: Vec<Action>,
@@ -22,13 +22,17 @@ impl Model for Tick {
 
     ghost Value = { Actions };
 
-    ghost view = { λ t. record { list = t.actions.items; room = vec_capacity t.actions - vec_len t.actions } };
+    ghost view = { λ t. record {
+      list = t.actions.items;
+      room = vec_capacity t.actions - vec_len t.actions;
+    } };
 
     ghost invariant = { λ t. vec_len t.actions ≤ TICK_ACTIONS };
 }
 
 impl Tick {
-    ghost use Rattle.std.specs.Prelude.{◌≡◌, ◌+◌, ◌≤◌, ◌<◌, ◌↔◌, [], ◌∷◌, ◌++◌, length, IsTrue, OnOk, OnErr, IfErr};
+    ghost use Rattle.std.specs.Prelude.{◌≡◌, ◌+◌, ◌≤◌, ◌<◌, ◌↔◌, [], ◌∷◌, ◌++◌, length, IsTrue};
+    ghost use Rattle.std.specs.Prelude.{OnOk, OnErr, IfErr};
 
     /// Makes a tick with no action. It takes no memory.
     pub fn new(alloc: Global) -> Self
@@ -60,7 +64,8 @@ impl Tick {
         ensures list { self.new.list ≡ self.old.list }
         ensures room { OnOk result (more ≤ self.new.room) }
         ensures grows { self.old.room ≤ self.new.room }
-        ensures memory { IfErr result (λ refusal. (refusal ≡ Refusal.NoMemory) × (self.old.room < more)) }
+        ensures memory { IfErr result (λ refusal. (refusal ≡ Refusal.NoMemory)
+            × (self.old.room < more)) }
         ensures settled { more ≤ self.old.room → self.new ≡ self.old }
         ensures unchanged { OnErr result (self.new ≡ self.old) }
     {

@@ -54,19 +54,22 @@ Excludes names arg = map (λ name. name.now) arg.conflicts.items ≡ names
 
 -- exactly one of these arguments is wanted
 abbrev pub IsChoiceOf : (name : List ℕ) → (members : List (List ℕ)) → ArgGroup → Type 0
-IsChoiceOf name members group = (group.id.now ≡ name) × (map (λ member. member.now) group.args.items ≡ members)
+IsChoiceOf name members group =
+    (group.id.now ≡ name) × (map (λ member. member.now) group.args.items ≡ members)
     × (group.required ≡ true) × (group.multiple ≡ false)
 
 -- the command of this name has arguments of these rules, and these groups
 abbrev pub HasArguments : (name : List ℕ) → List Rule → List ArgGroup → Command → Type 0
-HasArguments name rules groups command = ((app_of command).top.name ≡ name) × ((app_of command).top.rules ≡ rules)
+HasArguments name rules groups command =
+    ((app_of command).top.name ≡ name) × ((app_of command).top.rules ≡ rules)
     × (groups_of command ≡ groups) × ((out-Command command).has_globals ≡ false)
 
 abbrev pub folder_rule : Rule
 folder_rule = needed_rule (codes "dir")
 
 abbrev pub create_rules : List Rule
-create_rules = folder_rule ∷ number_rule (codes "cells") 1 CELLS [] ∷ value_rule (codes "words") ∷ []
+create_rules =
+    folder_rule ∷ number_rule (codes "cells") 1 CELLS [] ∷ value_rule (codes "words") ∷ []
 
 abbrev pub inspect_rules : List Rule
 inspect_rules = folder_rule ∷ flag_rule (codes "words") ∷ []
@@ -80,13 +83,16 @@ method_rule words = record (needed_rule (codes "method")) { parser = words }
 
 -- the mode of a socket, by its word; it isn't free, since it excludes a port
 abbrev pub mode_rule : Option ValueParser → Rule
-mode_rule words = record (value_rule (codes "socket-mode")) { defaults = codes "0600" ∷ []; is_free = false; parser = words }
+mode_rule words = record (value_rule (codes "socket-mode"))
+    { defaults = codes "0600" ∷ []; is_free = false; parser = words }
 
 abbrev pub serve_rules : (methods modes : Option ValueParser) → List Rule
-serve_rules methods modes = folder_rule ∷ method_rule methods ∷ number_rule (codes "every") 1 65_536 []
+serve_rules methods modes =
+    folder_rule ∷ method_rule methods ∷ number_rule (codes "every") 1 65_536 []
     ∷ number_rule (codes "port") 0 65_535 [] ∷ value_rule (codes "socket") ∷ mode_rule modes
     ∷ needed_number_rule (codes "clients") 1 100_000 ∷ number_rule (codes "idle") 1 86_400 []
-    ∷ number_rule (codes "report") 0 86_400 (codes "0" ∷ []) ∷ flag_rule (codes "exit-when-log-down")
+    ∷ number_rule (codes "report") 0 86_400 (codes "0" ∷ [])
+    ∷ flag_rule (codes "exit-when-log-down")
     ∷ number_rule (codes "exit-when-closed") 0 86_400 [] ∷ []
 
 abbrev pub method_words : List (List ℕ)
@@ -97,19 +103,25 @@ mode_words = mode_word Owner ∷ mode_word Group ∷ mode_word Everyone ∷ []
 
 -- the command `create`, of which exactly one of the number of cells and the words is wanted
 abbrev pub IsCreate : Command → Type 0
-IsCreate command = (content : ArgGroup) × IsChoiceOf (codes "content") (codes "cells" ∷ codes "words" ∷ []) content
+IsCreate command =
+    (content : ArgGroup) × IsChoiceOf (codes "content") (codes "cells" ∷ codes "words" ∷ []) content
     × HasArguments (codes "create") create_rules (content ∷ []) command
 
 -- the command `serve`, of which exactly one of the port and the socket is wanted
 abbrev pub IsServe : Command → Type 0
-IsServe command = (methods modes : Option ValueParser) × TakesWords method_words methods × TakesWords mode_words modes
-    × ((address : ArgGroup) × IsChoiceOf (codes "address") (codes "port" ∷ codes "socket" ∷ []) address
+IsServe command =
+    (methods modes : Option ValueParser) × TakesWords method_words methods
+    × TakesWords mode_words modes
+    × ((address : ArgGroup)
+    × IsChoiceOf (codes "address") (codes "port" ∷ codes "socket" ∷ []) address
     × HasArguments (codes "serve") (serve_rules methods modes) (address ∷ []) command)
 
 -- the commands, each with the rules of its arguments
 abbrev pub grammar : (methods modes : Option ValueParser) → List (List ℕ × List Rule)
-grammar methods modes = (codes "steps", []) ∷ (codes "create", create_rules) ∷ (codes "recover", folder_rule ∷ [])
-    ∷ (codes "inspect", inspect_rules) ∷ (codes "status", folder_rule ∷ []) ∷ (codes "backup", backup_rules)
+grammar methods modes =
+    (codes "steps", []) ∷ (codes "create", create_rules) ∷ (codes "recover", folder_rule ∷ [])
+    ∷ (codes "inspect", inspect_rules) ∷ (codes "status", folder_rule ∷ [])
+    ∷ (codes "backup", backup_rules)
     ∷ (codes "salvage", backup_rules) ∷ (codes "serve", serve_rules methods modes) ∷ []
 
 -- a command, with the rules of its arguments
@@ -118,9 +130,13 @@ entry_of command = (command.name, command.rules)
 
 -- one of these commands is wanted
 abbrev pub HasCommands : List (List ℕ × List Rule) → Command → Type 0
-HasCommands commands command = (map entry_of (app_of command).subs ≡ commands) × ((app_of command).top.subcommand_required ≡ true)
+HasCommands commands command =
+    (map entry_of (app_of command).subs ≡ commands)
+    × ((app_of command).top.subcommand_required ≡ true)
 
 -- one of the commands of the grammar is wanted
 abbrev pub HasGrammar : Command → Type 0
-HasGrammar command = (methods modes : Option ValueParser) × TakesWords method_words methods × TakesWords mode_words modes
+HasGrammar command =
+    (methods modes : Option ValueParser) × TakesWords method_words methods
+    × TakesWords mode_words modes
     × HasCommands (grammar methods modes) command

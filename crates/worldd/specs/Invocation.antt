@@ -5,7 +5,9 @@ use Rattle.clap.specs.declared.parser.matches.Found.{Found}
 use Rattle.clap.specs.Words.{first_value, rows_of, subcommand_name_of, subcommand_rows_of}
 use Rattle.world_actions.specs.declared.world.TheConstants.{CELLS}
 use Rattle.worldd.specs.declared.invocation.Invocation.{Invocation}
-use Rattle.worldd.specs.declared.invocation.Invocation.TheVariants.{Steps, Create, CreateOfWords, Recover, Inspect, Status, BackUp, Salvage}
+use Rattle.worldd.specs.declared.invocation.Invocation.TheVariants.{Steps, Create, CreateOfWords}
+use Rattle.worldd.specs.declared.invocation.Invocation.TheVariants.{Recover, Inspect, Status}
+use Rattle.worldd.specs.declared.invocation.Invocation.TheVariants.{BackUp, Salvage}
 use Rattle.worldd.specs.Values.{HasFlag, HasNumber}
 
 -- the words are of this command, and these are its values
@@ -29,15 +31,22 @@ AsksForCells found cells = HasNumber 32 found (codes "cells") cells × IsWorldSi
 -- the command of this name with these values asks for this
 abbrev pub AsksTo : (name : List ℕ) → Found → Invocation → Type 0
 AsksTo name found Steps = name ≡ codes "steps"
-AsksTo name found (Create folder cells) = (name ≡ codes "create") × (first_value found (codes "dir") ≡ Some folder.now)
+AsksTo name found (Create folder cells) =
+    (name ≡ codes "create") × (first_value found (codes "dir") ≡ Some folder.now)
     × (first_value found (codes "words") ≡ None) × AsksForCells found cells
-AsksTo name found (CreateOfWords folder words) = (name ≡ codes "create") × (first_value found (codes "dir") ≡ Some folder.now)
+AsksTo name found (CreateOfWords folder words) =
+    (name ≡ codes "create") × (first_value found (codes "dir") ≡ Some folder.now)
     × (first_value found (codes "words") ≡ Some words.now)
-AsksTo name found (Recover folder) = (name ≡ codes "recover") × (first_value found (codes "dir") ≡ Some folder.now)
-AsksTo name found (Inspect folder words) = (name ≡ codes "inspect") × (first_value found (codes "dir") ≡ Some folder.now)
+AsksTo name found (Recover folder) =
+    (name ≡ codes "recover") × (first_value found (codes "dir") ≡ Some folder.now)
+AsksTo name found (Inspect folder words) =
+    (name ≡ codes "inspect") × (first_value found (codes "dir") ≡ Some folder.now)
     × HasFlag found (codes "words") words
-AsksTo name found (Status folder) = (name ≡ codes "status") × (first_value found (codes "dir") ≡ Some folder.now)
-AsksTo name found (BackUp folder to) = (name ≡ codes "backup") × (first_value found (codes "dir") ≡ Some folder.now)
+AsksTo name found (Status folder) =
+    (name ≡ codes "status") × (first_value found (codes "dir") ≡ Some folder.now)
+AsksTo name found (BackUp folder to) =
+    (name ≡ codes "backup") × (first_value found (codes "dir") ≡ Some folder.now)
     × (first_value found (codes "to") ≡ Some to.now)
-AsksTo name found (Salvage folder to) = (name ≡ codes "salvage") × (first_value found (codes "dir") ≡ Some folder.now)
+AsksTo name found (Salvage folder to) =
+    (name ≡ codes "salvage") × (first_value found (codes "dir") ≡ Some folder.now)
     × (first_value found (codes "to") ≡ Some to.now)

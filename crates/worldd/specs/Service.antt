@@ -11,7 +11,8 @@ use Rattle.worldd.specs.Values.{HasFlag, HasNumber}
 
 -- the values ask for this address: for the socket's, if one is named
 abbrev pub AsksForAddress : Found → Address → Type 0
-AsksForAddress found (Port port) = (first_value found (codes "socket") ≡ None) × HasNumber 16 found (codes "port") port
+AsksForAddress found (Port port) =
+    (first_value found (codes "socket") ≡ None) × HasNumber 16 found (codes "port") port
 AsksForAddress found (Socket path mode) = (first_value found (codes "socket") ≡ Some path.now)
     × (first_value found (codes "socket-mode") ≡ Some (mode_word mode))
 
@@ -28,4 +29,5 @@ pub record AsksFor (found : Found) (service : Service) : Type 0 where
   pub report : HasNumber 32 found (codes "report") service.report
   pub exits : HasFlag found (codes "exit-when-log-down") service.exits_when_log_down
   pub closed : IfSome service.exit_when_closed (HasNumber 32 found (codes "exit-when-closed"))
-  pub not_closed : IfNone service.exit_when_closed ((number : ℕ) → HasNumber 32 found (codes "exit-when-closed") number → ⊥)
+  pub not_closed : IfNone service.exit_when_closed
+      ((number : ℕ) → HasNumber 32 found (codes "exit-when-closed") number → ⊥)

@@ -6,10 +6,13 @@ use Rattle.clap.specs.Words.{one_text}
 
 -- the value of this name is a number of so many bits; a plus may stand in front of its digits
 abbrev pub HasNumber : (bits : ℕ) → Found → (name : List ℕ) → (number : ℕ) → Type 0
-HasNumber bits found name number = (text : List ℕ) × (one_text found name ≡ Some text) × IsNumeral 10 (without_leading_plus text)
-    × (digits_value 10 (without_leading_plus text) < 2 ^ bits) × (number ≡ digits_value 10 (without_leading_plus text))
+HasNumber bits found name number =
+    (text : List ℕ) × (one_text found name ≡ Some text) × IsNumeral 10 (without_leading_plus text)
+    × (digits_value 10 (without_leading_plus text) < 2 ^ bits)
+    × (number ≡ digits_value 10 (without_leading_plus text))
 
 -- whether the flag of this name was given
 abbrev pub HasFlag : Found → (name : List ℕ) → (flag : Bool) → Type 0
 HasFlag found name flag = (one_text found name ≡ Some (codes "true") → flag ≡ true)
-    × (one_text found name ≡ Some (codes "false") → flag ≡ false) × (one_text found name ≡ None → flag ≡ false)
+    × (one_text found name ≡ Some (codes "false") → flag ≡ false)
+    × (one_text found name ≡ None → flag ≡ false)

@@ -41,7 +41,8 @@ const STATUS_ABOUT: &str = "Prints figures of the world in a folder, also while 
 /// Reads the words by the command line's grammar. The error has clap's text.
 pub fn matches_of<'a>(alloc: Global, words: &'a [String]) -> Result<ArgMatches<'a>, Error>
     ensures { IfOk result (λ matches. (command : WordsCommand) × HasGrammar command
-        × IsParsedFrom command matches × HasMatchesOf (app_of command) (map string_bytes words.entry.now) matches) }
+        × IsParsedFrom command matches
+        × HasMatchesOf (app_of command) (map string_bytes words.entry.now) matches) }
 {
     commands(alloc)?.try_get_matches_from(words)
 }
@@ -184,7 +185,8 @@ fn words_argument<'a>(alloc: Global) -> Arg<'a>
 /// The number of this name, if it has one.
 pub fn number_of(given: &ArgMatches<'_>, name: &str) -> Option<u32>
     ensures some { IfSome result (HasNumber 32 (found_of given.now) name.now) }
-    ensures none { IfNone result ((number : ℕ) → HasNumber 32 (found_of given.now) name.now number → ⊥) }
+    ensures none { IfNone result
+        ((number : ℕ) → HasNumber 32 (found_of given.now) name.now number → ⊥) }
 {
     given.get_one(name)
 }

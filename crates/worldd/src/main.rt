@@ -1,12 +1,14 @@
 //! The program `worldd`: its command line, its exit statuses, and what it says of a fault.
 //!
-//! `steps` runs a script over a world in memory. `create` makes the files of a new world in a folder. `recover`,
-//! `inspect` and `status` print which world the files of a folder hold, and write nothing into it. `backup` copies it,
-//! also while it is served. `serve` serves the world of a folder to clients of a port or of a socket.
+//! `steps` runs a script over a world in memory. `create` makes the files of a new world in a
+//! folder. `recover`, `inspect` and `status` print which world the files of a folder hold, and
+//! write nothing into it. `backup` copies it, also while it is served. `serve` serves the world of
+//! a folder to clients of a port or of a socket.
 //!
-//! The status is 0 if the run ended well, and 2 for a wrong command line. It is 1 after a fault, and 13 after one by a
-//! shortage of memory, threads or room on a disk: standard error then has `fault CODE`, and the reason on the next line. A
-//! server ends with 12 if its log is down, with 11 if its images are, and with 10 if its listener failed.
+//! The status is 0 if the run ended well, and 2 for a wrong command line. It is 1 after a fault,
+//! and 13 after one by a shortage of memory, threads or room on a disk: standard error then has
+//! `fault CODE`, and the reason on the next line. A server ends with 12 if its log is down, with 11
+//! if its images are, and with 10 if its listener failed.
 #![tactic(auto)]
 
 ghost use Rattle.std.specs.Prelude.{◌≡◌, IfSome, IfNone};

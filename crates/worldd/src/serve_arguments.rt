@@ -119,7 +119,8 @@ fn address_group<'a>(alloc: Global) -> Result<ArgGroup<'a>, AllocError>
 
 fn address_of<'a>(given: &ArgMatches<'a>) -> Option<Address<'a>>
     ensures some { IfSome result (AsksForAddress (found_of given.now)) }
-    ensures none { IfNone result ((address : AnAddress) → AsksForAddress (found_of given.now) address → ⊥) }
+    ensures none { IfNone result
+        ((address : AnAddress) → AsksForAddress (found_of given.now) address → ⊥) }
 {
     match given.get_str(SOCKET) {
         Some(path) => Some(Address::Socket {
@@ -132,7 +133,8 @@ fn address_of<'a>(given: &ArgMatches<'a>) -> Option<Address<'a>>
 
 fn port_of(given: &ArgMatches<'_>) -> Option<u16>
     ensures some { IfSome result (HasNumber 16 (found_of given.now) (codes "port")) }
-    ensures none { IfNone result ((port : ℕ) → HasNumber 16 (found_of given.now) (codes "port") port → ⊥) }
+    ensures none { IfNone result
+        ((port : ℕ) → HasNumber 16 (found_of given.now) (codes "port") port → ⊥) }
 {
     given.get_one(PORT)
 }
@@ -224,8 +226,10 @@ fn service_in<'a>(given: &ArgMatches<'a>) -> Option<Service<'a>>
 
 // After how many ticks an image is due, if the words say it.
 fn every_in(given: &ArgMatches<'_>) -> Option<Every>
-    ensures some { IfSome result (λ every. HasNumber 32 (found_of given.now) (codes "every") every.0) }
-    ensures none { IfNone result ((number : ℕ) → HasNumber 32 (found_of given.now) (codes "every") number → ⊥) }
+    ensures some { IfSome result (λ every.
+        HasNumber 32 (found_of given.now) (codes "every") every.0) }
+    ensures none { IfNone result
+        ((number : ℕ) → HasNumber 32 (found_of given.now) (codes "every") number → ⊥) }
 {
     Some(Every(number_of(given, EVERY)?))
 }

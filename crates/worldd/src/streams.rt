@@ -55,8 +55,8 @@ impl<S: Write + Drop> Write for Watched<S> {
     }
 }
 
-/// Runs a script of these streams. A stream that fails ends the program with its name and its reason.
-/// The writer must not buffer, since a script doesn't flush it.
+/// Runs a script of these streams. A stream that fails ends the program with its name and its
+/// reason. The writer must not buffer, since a script doesn't flush it.
 pub fn run_steps<R: Read + Drop, W: Write + Drop>(alloc: Global, input: R, output: W) -> Ending {
     let mut input = Watched::new(input);
     let mut output = Watched::new(output);
@@ -71,7 +71,8 @@ fn ending_of(
     output: Option<io::Error>,
 ) -> Ending
     ensures well { IsOk run → result ≡ Ending.Ran }
-    ensures fault { (refusal : Reason) → run ≡ Err refusal → refusal ≢ Refusal.Device → result ≡ Ending.Fault refusal }
+    ensures fault { (refusal : Reason) → run ≡ Err refusal → refusal ≢ Refusal.Device
+        → result ≡ Ending.Fault refusal }
 {
     match (run, input, output) {
         (Err(Refusal::Device), Some(error), _) => Ending::Stream(StreamFailure {

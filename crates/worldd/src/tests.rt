@@ -168,9 +168,10 @@ fn words(alloc: Global, line: &[&str]) -> Result<Vec<String>, Fail> {
     Ok(words)
 }
 
-// The parts of the service that a command line asks for. They are the folder, whether the method is Ping-Pong, the number
-// of ticks and the address as text. Then come the number of clients, their seconds of silence, those between two reports
-// and those with a closed door, and whether it ends when the log is down.
+// The parts of the service that a command line asks for. They are the folder, whether the method is
+// Ping-Pong, the number of ticks and the address as text. Then come the number of clients, their
+// seconds of silence, those between two reports and those with a closed door, and whether it ends
+// when the log is down.
 fn asked(alloc: Global, line: &[&str]) -> Result<Option<Asked>, Fail> {
     let words = words(alloc, line)?;
     let matches = matches_of(alloc, &words)?;

@@ -1,11 +1,12 @@
 -- The two arrays of words, the two marks of each cell, and the effect of each call on them.
-use Rattle.std.specs.Prelude.{◌≡◌, ◌≤◌, ◌+◌, ℕ, Bool, true, false, not, List, [], ◌∷◌, length, drop, map, replicate, All, slice_set, if◌then◌else◌}
+use Rattle.std.specs.Prelude.{◌≡◌, ◌≤◌, ◌+◌, ℕ, Bool, true, false, not, List, [], ◌∷◌, length, drop}
+use Rattle.std.specs.Prelude.{map, replicate, All, slice_set, if◌then◌else◌}
 use Rattle.std.specs.List.{slice_index_or}
 use Rattle.world_actions.specs.World.{IsWord}
 use Rattle.capture_core.specs.Content.{Content, all_touched}
 
--- The words of both arrays, and the number of taken cells of the round. A set read mark sends a cell's reads to array
--- one, and a set write mark its writes.
+-- The words of both arrays, and the number of taken cells of the round. A set read mark sends a
+-- cell's reads to array one, and a set write mark its writes.
 pub record Arrays : Type 0 where
   pub array_zero : List ℕ
   pub array_one : List ℕ
@@ -18,7 +19,8 @@ abbrev pub words_at : List Bool → List ℕ → List ℕ → List ℕ
 words_at [] zeros ones = []
 words_at (mark ∷ marks) [] ones = []
 words_at (mark ∷ marks) (zero_word ∷ zeros) [] = []
-words_at (mark ∷ marks) (zero_word ∷ zeros) (one_word ∷ ones) = (if mark then one_word else zero_word) ∷ words_at marks zeros ones
+words_at (mark ∷ marks) (zero_word ∷ zeros) (one_word ∷ ones) =
+    (if mark then one_word else zero_word) ∷ words_at marks zeros ones
 
 -- the words that reads take
 abbrev pub live_words : Arrays → List ℕ
@@ -28,7 +30,8 @@ live_words store = words_at store.read_marks store.array_zero store.array_one
 abbrev pub captured_words : Arrays → List ℕ
 captured_words store = words_at (map not store.write_marks) store.array_zero store.array_one
 
--- the content of a store; every round hands out a word for each cell, so each cell counts as touched
+-- the content of a store; every round hands out a word for each cell, so each cell
+-- counts as touched
 abbrev pub content_of : Arrays → Content
 content_of store = all_touched (live_words store) (drop store.taken (captured_words store))
 
@@ -41,7 +44,8 @@ pub record IsInOrder (store : Arrays) : Type 0 where
   pub zero_words : All IsWord store.array_zero
   pub one_words : All IsWord store.array_one
 
--- both arrays are the words, reads go to array zero and writes to array one, and no cell is left to take
+-- both arrays are the words, reads go to array zero and writes to array one, and no
+-- cell is left to take
 abbrev pub built_arrays : List ℕ → Arrays
 built_arrays words = record {
   array_zero = words;

@@ -1,9 +1,12 @@
-ghost use Rattle.std.specs.Prelude.{◌≡◌, ◌<◌, ◌↔◌, refl, [], ◌∷◌, length, map, not, All, slice_get, slice_index, slice_set, IfOk, IfErr, IfSome, IfNone, OnSome, if◌then◌else◌};
+ghost use Rattle.std.specs.Prelude.{◌≡◌, ◌<◌, ◌↔◌, refl, [], ◌∷◌, length, map, not, All, slice_get};
+ghost use Rattle.std.specs.Prelude.{slice_index, slice_set, IfOk, IfErr, IfSome, IfNone, OnSome};
+ghost use Rattle.std.specs.Prelude.{if◌then◌else◌};
 ghost use Rattle.world_actions.specs.World.{IsWord};
 ghost use Rattle.world_ticks.specs.Cells.{writes_among};
 ghost use Rattle.capture_core.specs.Taken.{IsTakenWord};
 ghost use Rattle.capture_core.specs.Content.{all_touched, content_after, Takes, Marks};
-ghost use Rattle.zigzag.specs.Zigzag.{live_words, captured_words, content_of, built_arrays, written_arrays, marked_arrays, taken_arrays};
+ghost use Rattle.zigzag.specs.Zigzag.{live_words, captured_words, content_of, built_arrays};
+ghost use Rattle.zigzag.specs.Zigzag.{written_arrays, marked_arrays, taken_arrays};
 
 use capture_core::{Capture, Taken, Taker};
 use packed_marks::PackedMarks;
@@ -12,8 +15,9 @@ use std::marker::Model;
 use world_actions::Refusal;
 use world_ticks::Cells;
 
-/// A store of words in two arrays. For each cell a read mark names the array with its live word, and a write mark names
-/// the array that a write goes to. A clear mark names array zero, and a set mark array one.
+/// A store of words in two arrays. For each cell a read mark names the array with its live word,
+/// and a write mark names the array that a write goes to. A clear mark names array zero, and a
+/// set mark array one.
 #[derive(Drop)]
 pub struct Zigzag {
     array_zero: Vec<u64>,
@@ -35,7 +39,8 @@ impl Model for Zigzag {
 }
 
 impl Zigzag {
-    /// Builds a store of these words, with no round open. It takes all the memory that it will ever need.
+    /// Builds a store of these words, with no round open. It takes all the memory that
+    /// it will ever need.
     pub fn new(alloc: Global, words: &[u64]) -> Result<Self, Refusal>
         requires { All IsWord words.now }
         ensures ok { IfOk result (λ store. store ≡ built_arrays words.now) }

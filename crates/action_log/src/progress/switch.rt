@@ -1,13 +1,18 @@
-ghost use Rattle.std.specs.Prelude.{◌≡◌, ◌-◌, ◌≤◌, ℕ, List, true, false, length, vec_capacity, IsTrue, OnOk, OnErr, if◌then◌else◌, is_ok, [], ◌∷◌};
+ghost use Rattle.std.specs.Prelude.{◌≡◌, ◌-◌, ◌≤◌, ℕ, List, true, false, length, vec_capacity};
+ghost use Rattle.std.specs.Prelude.{IsTrue, OnOk, OnErr, if◌then◌else◌, is_ok, [], ◌∷◌};
 ghost use Rattle.world_ticks.specs.declared.tick.TheConstants.{TICK_MAX};
 ghost use Rattle.file_format.specs.declared.gate.TheConstants.{OPEN_GATE, CLOSED_GATE};
 ghost use Rattle.disk_model.specs.Disk.{Only, counted, Write, Sync};
 ghost use Rattle.action_log.specs.declared.format.TheConstants.{BASE_PLACE, HEADER_BYTES};
-ghost use Rattle.action_log.specs.declared.phase.Phase.TheVariants.{Retiring, RetiringSync, Ready, Closing, ClosingSync, Header, HeaderSync, Opening, OpeningSync};
+ghost use Rattle.action_log.specs.declared.phase.Phase.TheVariants.{Retiring, RetiringSync, Ready};
+ghost use Rattle.action_log.specs.declared.phase.Phase.TheVariants.{Closing, ClosingSync, Header};
+ghost use Rattle.action_log.specs.declared.phase.Phase.TheVariants.{HeaderSync, Opening};
+ghost use Rattle.action_log.specs.declared.phase.Phase.TheVariants.{OpeningSync};
 ghost use Rattle.action_log.specs.Progress.{IsInOrder};
 ghost use Rattle.action_log.specs.Written.{Written, header};
 ghost use Rattle.action_log.specs.Files.{Fits, OtherEndures};
-ghost use Rattle.action_log.specs.Steps.{with_switch, switched, renewed, CallOnCurrent, CallOnOther};
+ghost use Rattle.action_log.specs.Steps.{with_switch, switched, renewed, CallOnCurrent};
+ghost use Rattle.action_log.specs.Steps.{CallOnOther};
 
 use super::Progress;
 use crate::encoding::put_header;
@@ -24,7 +29,8 @@ impl Progress {
         requires phase { self.old.phase ≡ Retiring }
         requires up { self.old.down ≡ false }
         ensures ok { OnOk result (self.new ≡ record self.old { phase = RetiringSync }) }
-        ensures failed { OnErr result (self.new ≡ record self.old { phase = RetiringSync; down = true }) }
+        ensures failed { OnErr result
+            (self.new ≡ record self.old { phase = RetiringSync; down = true }) }
         ensures call { CallOnCurrent D.honest D.content D.may_leave D.faults D.called
             (Write 0 (CLOSED_GATE ∷ [])) result self.old self.new current.old current.new }
     {
@@ -39,7 +45,9 @@ impl Progress {
         requires in_start { self.old.starting ≡ true }
         requires phase { self.old.phase ≡ RetiringSync }
         requires up { self.old.down ≡ false }
-        ensures ok { OnOk result (self.new ≡ record self.old { phase = if self.old.other_shut then Header else Closing }) }
+        ensures ok { OnOk result
+            (self.new
+            ≡ record self.old { phase = if self.old.other_shut then Header else Closing }) }
         ensures failed { OnErr result (self.new ≡ record self.old { down = true }) }
         ensures call { CallOnCurrent D.honest D.content D.may_leave D.faults D.called
             Sync result self.old self.new current.old current.new }
@@ -60,7 +68,8 @@ impl Progress {
         requires phase { self.old.phase ≡ Closing }
         requires up { self.old.down ≡ false }
         ensures ok { OnOk result (self.new ≡ record self.old { phase = ClosingSync }) }
-        ensures failed { OnErr result (self.new ≡ record self.old { phase = ClosingSync; down = true }) }
+        ensures failed { OnErr result
+            (self.new ≡ record self.old { phase = ClosingSync; down = true }) }
         ensures call { CallOnOther D.honest D.content D.may_leave D.faults D.called
             (Write 0 (CLOSED_GATE ∷ [])) result self.old self.new other.old other.new }
     {
@@ -99,9 +108,11 @@ impl Progress {
         requires phase { self.old.phase ≡ Header }
         requires up { self.old.down ≡ false }
         ensures ok { OnOk result (self.new ≡ record self.old { phase = HeaderSync }) }
-        ensures failed { OnErr result (self.new ≡ record self.old { phase = HeaderSync; down = true }) }
+        ensures failed { OnErr result
+            (self.new ≡ record self.old { phase = HeaderSync; down = true }) }
         ensures call { CallOnOther D.honest D.content D.may_leave D.faults D.called
-            (Write BASE_PLACE (header self.old.next_base)) result self.old self.new other.old other.new }
+            (Write BASE_PLACE (header self.old.next_base)) result self.old
+            self.new other.old other.new }
         ensures capacity { vec_capacity buffer.old ≤ vec_capacity buffer.new }
     {
         put_header(buffer, self.next_base);
@@ -134,7 +145,8 @@ impl Progress {
         requires phase { self.old.phase ≡ Opening }
         requires up { self.old.down ≡ false }
         ensures ok { OnOk result (self.new ≡ record self.old { phase = OpeningSync }) }
-        ensures failed { OnErr result (self.new ≡ record self.old { phase = OpeningSync; down = true }) }
+        ensures failed { OnErr result
+            (self.new ≡ record self.old { phase = OpeningSync; down = true }) }
         ensures call { CallOnOther D.honest D.content D.may_leave D.faults D.called
             (Write 0 (OPEN_GATE ∷ [])) result self.old self.new other.old other.new }
     {
@@ -161,7 +173,8 @@ impl Progress {
             → OnErr result (Fits self.new written current (D.content other.new)) }
         ensures failed_lasts { IsTrue D.honest → (written : Written)
             → OtherEndures self.old written (D.content other.old) (D.may_leave other.old)
-            → OnErr result (OtherEndures self.new written (D.content other.new) (D.may_leave other.new)) }
+            → OnErr result
+            (OtherEndures self.new written (D.content other.new) (D.may_leave other.new)) }
         ensures faults { D.faults other.new ≡ counted (D.faults other.old) result }
         ensures called { D.called other.old Sync (is_ok result) other.new }
     {
@@ -180,7 +193,8 @@ impl Progress {
         Ok(())
     }
 
-    // Returns the first phase of a switch to the other segment. A file that is known to be shut isn't closed again.
+    // Returns the first phase of a switch to the other segment. A file that is known to be shut
+    // isn't closed again.
     fn first_of_switch(&self) -> Phase
         ensures { result ≡ if self.now.other_shut then Header else Closing }
     {
@@ -203,11 +217,13 @@ impl Progress {
         requires after_start { self.old.starting ≡ false }
         requires phase { self.old.phase ≡ Ready }
         requires up { self.old.down ≡ false }
-        requires room { IsTrue D.honest → self.old.other_shut ≡ true → 1 ≤ length (D.content other.old) }
+        requires room { IsTrue D.honest → self.old.other_shut ≡ true
+            → 1 ≤ length (D.content other.old) }
         ensures ok { OnOk result (self.new ≡ with_switch self.old tick false) }
         ensures failed { OnErr result (self.new ≡ with_switch self.old tick true) }
         ensures call { CallOnOther D.honest D.content D.may_leave D.faults D.called
-            (if self.old.other_shut then Write BASE_PLACE (header tick) else Write 0 (CLOSED_GATE ∷ []))
+            (if self.old.other_shut
+            then Write BASE_PLACE (header tick) else Write 0 (CLOSED_GATE ∷ []))
             result self.old self.new other.old other.new }
         ensures capacity { vec_capacity buffer.old ≤ vec_capacity buffer.new }
     {

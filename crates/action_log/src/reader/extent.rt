@@ -20,9 +20,9 @@ pub struct Extent {
     pub ended: bool,
 }
 
-/// Returns how far the groups go that lead the bytes, or `None` if the bytes have no open header. The bytes may be the
-/// first ones of a segment, or a damaged segment. `segment_extents` states what follows for the whole segment. It takes
-/// no memory.
+/// Returns how far the groups go that lead the bytes, or `None` if the bytes have no open header.
+/// The bytes may be the first ones of a segment, or a damaged segment. `segment_extents` states
+/// what follows for the whole segment. It takes no memory.
 pub fn extent_of(bytes: &[u8]) -> Option<Extent>
     ensures some { IfSome result (λ extent.
         IsExtent bytes.now extent.groups_end extent.ticks extent.ended) }
@@ -44,10 +44,12 @@ pub fn extent_of(bytes: &[u8]) -> Option<Extent>
     })
 }
 
-// Counts the ticks of the whole groups that lead these bytes, up to `most` ticks, and returns the bytes after them.
+// Counts the ticks of the whole groups that lead these bytes, up to `most` ticks, and returns the
+// bytes after them.
 fn behind_groups(format: Format, bytes: &[u8], most: usize) -> (usize, &[u8])
     requires { most ≤ SEGMENT_TICKS }
-    ensures { (groups : List (List (List Action))) × AreLeading format most bytes.now groups result.1.now
+    ensures { (groups : List (List (List Action)))
+        × AreLeading format most bytes.now groups result.1.now
         × (length (joined groups) ≡ result.0) }
 {
     let mut ticks = 0;

@@ -1,12 +1,15 @@
 #![tactic(auto, unfolding(crate::specs::Reading::number_at, crate::specs::Reading::two_at, crate::specs::Reading::fields_at, crate::specs::Reading::action_at))]
 
-ghost use Rattle.std.specs.Prelude.{◌≡◌, ◌≤◌, ◌<◌, ◌*◌, [], ◌∷◌, List, length, Some, None, IfSome, IfNone, IfOk, IfErr, OnOk};
+ghost use Rattle.std.specs.Prelude.{◌≡◌, ◌≤◌, ◌<◌, ◌*◌, [], ◌∷◌, List, length, Some, None, IfSome};
+ghost use Rattle.std.specs.Prelude.{IfNone, IfOk, IfErr, OnOk};
 ghost use Rattle.world_actions.specs.declared.action.Action.{Action};
 ghost use Rattle.file_format.specs.declared.format.Format.{Format};
 ghost use Rattle.world_ticks.specs.declared.tick.TheConstants.{TICK_ACTIONS};
 ghost use Rattle.action_log.specs.declared.format.TheConstants.{GROUP_TICKS, SEGMENT_TICKS};
 ghost use Rattle.action_log.specs.Segment.{EndsGroups, joined};
-ghost use Rattle.action_log.specs.Reading.{number_at, fields_at, action_at, several_at, tick_at, group_at, groups_of, ticks_of, found_in, RefusesWhere, AreAdded};
+ghost use Rattle.action_log.specs.Reading.{number_at, fields_at, action_at, several_at, tick_at};
+ghost use Rattle.action_log.specs.Reading.{group_at, groups_of, ticks_of, found_in, RefusesWhere};
+ghost use Rattle.action_log.specs.Reading.{AreAdded};
 ghost use Rattle.action_log.specs.TickList.{actions_of};
 
 use crate::format::{ADD, CAP, GROUP_TICKS, SET, SWAP, TRANSFER, last_kind};
@@ -177,14 +180,16 @@ pub(super) fn count_group(format: Format, bytes: &[u8]) -> Option<(usize, usize,
     Some((count, actions, rest))
 }
 
-/// Counts all groups, their ticks and actions. At most `most` ticks are allowed. It takes no memory.
+/// Counts all groups, their ticks and actions. At most `most` ticks are allowed. It
+/// takes no memory.
 pub(super) fn count_all(format: Format, bytes: &[u8], most: usize) -> Option<Counts>
     requires { most ≤ SEGMENT_TICKS }
     ensures some { IfSome result (λ counts. (groups : List (List (List Action)))
         × (groups_of format bytes.now ≡ Some groups) × (length groups ≡ counts.groups)
         × (length (joined groups) ≡ counts.ticks) × (counts.ticks ≤ most)
         × (length (actions_of (joined groups)) ≡ counts.actions)) }
-    ensures none { IfNone result ((groups : List (List (List Action))) → groups_of format bytes.now ≡ Some groups
+    ensures none { IfNone result
+        ((groups : List (List (List Action))) → groups_of format bytes.now ≡ Some groups
         → most < length (joined groups)) }
 {
     let mut counts = Counts {
@@ -213,7 +218,8 @@ fn read_tick<'a>(
     actions: &mut Vec<Action>,
     ends: &mut Vec<usize>,
 ) -> Result<&'a [u8], Refusal>
-    ensures read { IfOk result (λ rest. (tick : List Action) × (tick_at format bytes.now ≡ Some (tick, rest.now))
+    ensures read { IfOk result (λ rest. (tick : List Action)
+        × (tick_at format bytes.now ≡ Some (tick, rest.now))
         × AreAdded (tick ∷ []) actions.old.items ends.old.items actions.new.items ends.new.items) }
     ensures refused { IfErr result (RefusesWhere (tick_at format bytes.now ≡ None)) }
 {
@@ -239,7 +245,8 @@ fn read_group<'a>(
     actions: &mut Vec<Action>,
     ends: &mut Vec<usize>,
 ) -> Result<&'a [u8], Refusal>
-    ensures read { IfOk result (λ rest. (ticks : List (List Action)) × (group_at format bytes.now ≡ Some (ticks, rest.now))
+    ensures read { IfOk result (λ rest. (ticks : List (List Action))
+        × (group_at format bytes.now ≡ Some (ticks, rest.now))
         × AreAdded ticks actions.old.items ends.old.items actions.new.items ends.new.items) }
     ensures refused { IfErr result (RefusesWhere (group_at format bytes.now ≡ None)) }
 {
@@ -259,7 +266,8 @@ fn read_groups(
     actions: &mut Vec<Action>,
     ends: &mut Vec<usize>,
 ) -> Result<(), Refusal>
-    ensures read { OnOk result ((ticks : List (List Action)) × (ticks_of format bytes.now ≡ Some ticks)
+    ensures read { OnOk result
+        ((ticks : List (List Action)) × (ticks_of format bytes.now ≡ Some ticks)
         × AreAdded ticks actions.old.items ends.old.items actions.new.items ends.new.items) }
     ensures refused { IfErr result (RefusesWhere (ticks_of format bytes.now ≡ None)) }
 {
@@ -270,7 +278,8 @@ fn read_groups(
     Ok(())
 }
 
-/// Returns the ticks of all groups. It takes memory once, for as many ticks and actions as were counted.
+/// Returns the ticks of all groups. It takes memory once, for as many ticks and actions
+/// as were counted.
 pub(super) fn read_ticks(
     alloc: Global,
     format: Format,

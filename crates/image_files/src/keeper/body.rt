@@ -1,4 +1,5 @@
-ghost use Rattle.std.specs.Prelude.{◌≡◌, ◌+◌, ◌*◌, ◌≤◌, ◌<◌, ℕ, List, length, take, drop, IsTrue, OnOk, OnErr, IfNone, Option, Some, is_ok, []};
+ghost use Rattle.std.specs.Prelude.{◌≡◌, ◌+◌, ◌*◌, ◌≤◌, ◌<◌, ℕ, List, length, take, drop, IsTrue};
+ghost use Rattle.std.specs.Prelude.{OnOk, OnErr, IfNone, Option, Some, is_ok, []};
 ghost use Rattle.image_files.specs.Image.{header_bytes};
 ghost use Rattle.image_files.specs.Taken.{filled_words};
 ghost use Rattle.std.specs.List.{flat_map};
@@ -9,7 +10,9 @@ ghost use Rattle.disk_model.specs.Disk.{counted, Read, Write, Sync};
 ghost use Rattle.file_format.specs.Gate.{HasShutGate};
 ghost use Rattle.capture_core.specs.declared.taker.Taken.{Taken};
 ghost use Rattle.capture_core.specs.Taken.{IsTakenWord};
-ghost use Rattle.image_files.specs.declared.phase.Phase.TheVariants.{Header, Taking, Reading, Writing, BodySync, Opening, Down};
+ghost use Rattle.image_files.specs.declared.phase.Phase.TheVariants.{Header, Taking, Reading};
+ghost use Rattle.image_files.specs.declared.phase.Phase.TheVariants.{Writing, BodySync, Opening};
+ghost use Rattle.image_files.specs.declared.phase.Phase.TheVariants.{Down};
 ghost use Rattle.image_files.specs.Progress.{left_of};
 ghost use Rattle.image_files.specs.Keeper.{Fits};
 ghost use Rattle.image_files.specs.Steps.{IsOnlyRead};
@@ -33,7 +36,8 @@ impl ImageKeeper {
         requires gate { IsTrue D.honest → HasShutGate (D.content target.old) }
         ensures ok { OnOk result (self.new ≡ record self.old { phase = Taking }) }
         ensures failed { OnErr result (self.new ≡ record self.old { phase = Down }) }
-        ensures goes_on { GoesOn D.honest D.content D.may_leave self.old self.new target.old target.new }
+        ensures goes_on { GoesOn D.honest D.content D.may_leave self.old
+            self.new target.old target.new }
         ensures lowers { OnOk result (left_of self.new < left_of self.old) }
         ensures faults { D.faults target.new ≡ counted (D.faults target.old) result }
         ensures called { D.called target.old
@@ -77,7 +81,8 @@ impl ImageKeeper {
         };
     }
 
-    // Reads the newest image's words of the chunk in work, and gives them to the cells without a word of their own.
+    // Reads the newest image's words of the chunk in work, and gives them to the cells without a
+    // word of their own.
     pub(super) fn read_chunk<D: Disk>(&mut self, newest: &mut D) -> Result<(), Refusal>
         requires phase { self.old.phase ≡ Reading }
         requires image { IsTrue D.honest
@@ -87,11 +92,13 @@ impl ImageKeeper {
             × (length chunk ≡ length self.old.chunk)
             × (IsTrue D.honest → chunk ≡ read_cells self.old (D.content newest.old))) }
         ensures failed { OnErr result (self.new ≡ record self.old { phase = Down }) }
-        ensures goes_on { Reads D.honest D.content D.may_leave self.old self.new newest.old newest.new }
+        ensures goes_on { Reads D.honest D.content D.may_leave self.old
+            self.new newest.old newest.new }
         ensures lowers { OnOk result (left_of self.new < left_of self.old) }
         ensures faults { D.faults newest.new ≡ counted (D.faults newest.old) result }
         ensures called { D.called newest.old
-            (Read (HEADER_BYTES + WORD_BYTES * self.old.written) (WORD_BYTES * length self.old.chunk))
+            (Read (HEADER_BYTES + WORD_BYTES * self.old.written)
+            (WORD_BYTES * length self.old.chunk))
             (is_ok result) newest.new }
     {
         let place = HEADER_BYTES + WORD_BYTES * self.written;
@@ -112,11 +119,13 @@ impl ImageKeeper {
             → HEADER_BYTES + WORD_BYTES * self.old.written ≤ length (D.content target.old) }
         ensures ok { OnOk result (self.new ≡ with_chunk_written self.old) }
         ensures failed { OnErr result (self.new ≡ record self.old { phase = Down }) }
-        ensures goes_on { GoesOn D.honest D.content D.may_leave self.old self.new target.old target.new }
+        ensures goes_on { GoesOn D.honest D.content D.may_leave self.old
+            self.new target.old target.new }
         ensures lowers { OnOk result (left_of self.new < left_of self.old) }
         ensures faults { D.faults target.new ≡ counted (D.faults target.old) result }
         ensures called { D.called target.old
-            (Write (HEADER_BYTES + WORD_BYTES * self.old.written) (flat_map (number_bytes WORD_BYTES) (filled_words self.old.chunk [])))
+            (Write (HEADER_BYTES + WORD_BYTES * self.old.written)
+            (flat_map (number_bytes WORD_BYTES) (filled_words self.old.chunk [])))
             (is_ok result) target.new }
     {
         let place = HEADER_BYTES + WORD_BYTES * self.written;
@@ -151,7 +160,8 @@ impl ImageKeeper {
         requires phase { self.old.phase ≡ BodySync }
         ensures ok { OnOk result (self.new ≡ record self.old { phase = Opening }) }
         ensures failed { OnErr result (self.new ≡ record self.old { phase = Down }) }
-        ensures goes_on { GoesOn D.honest D.content D.may_leave self.old self.new target.old target.new }
+        ensures goes_on { GoesOn D.honest D.content D.may_leave self.old
+            self.new target.old target.new }
         ensures lowers { OnOk result (left_of self.new < left_of self.old) }
         ensures faults { D.faults target.new ≡ counted (D.faults target.old) result }
         ensures called { D.called target.old Sync (is_ok result) target.new }

@@ -1,7 +1,8 @@
 ghost use Rattle.std.specs.Prelude.{◌≡◌, ◌<◌, true, IsTrue, OnOk, OnErr, is_ok, [], ◌∷◌};
 ghost use Rattle.file_format.specs.declared.gate.TheConstants.{CLOSED_GATE};
 ghost use Rattle.disk_model.specs.Disk.{counted, Write, Sync};
-ghost use Rattle.image_files.specs.declared.phase.Phase.TheVariants.{Closing, ClosingSync, Header, Down};
+ghost use Rattle.image_files.specs.declared.phase.Phase.TheVariants.{Closing, ClosingSync, Header};
+ghost use Rattle.image_files.specs.declared.phase.Phase.TheVariants.{Down};
 ghost use Rattle.image_files.specs.Progress.{left_of};
 ghost use Rattle.image_files.specs.Steps.{closed};
 ghost use Rattle.image_files.specs.Calls.{GoesOn};
@@ -22,10 +23,12 @@ impl ImageKeeper {
         ensures failed { OnErr result (self.new ≡ record self.old { phase = Down }) }
         ensures written { IsTrue D.honest
             → OnOk result (D.content target.new ≡ closed (D.content target.old)) }
-        ensures goes_on { GoesOn D.honest D.content D.may_leave self.old self.new target.old target.new }
+        ensures goes_on { GoesOn D.honest D.content D.may_leave self.old
+            self.new target.old target.new }
         ensures lowers { OnOk result (left_of self.new < left_of self.old) }
         ensures faults { D.faults target.new ≡ counted (D.faults target.old) result }
-        ensures called { D.called target.old (Write 0 (CLOSED_GATE ∷ [])) (is_ok result) target.new }
+        ensures called { D.called target.old (Write 0 (CLOSED_GATE ∷ []))
+            (is_ok result) target.new }
     {
         if let Err(refusal) = target.write_at(0, &[CLOSED_GATE]) {
             self.go_down();
@@ -41,7 +44,8 @@ impl ImageKeeper {
         ensures ok { OnOk result
             (self.new ≡ record self.old { phase = Header; target_shut = true }) }
         ensures failed { OnErr result (self.new ≡ record self.old { phase = Down }) }
-        ensures goes_on { GoesOn D.honest D.content D.may_leave self.old self.new target.old target.new }
+        ensures goes_on { GoesOn D.honest D.content D.may_leave self.old
+            self.new target.old target.new }
         ensures lowers { OnOk result (left_of self.new < left_of self.old) }
         ensures faults { D.faults target.new ≡ counted (D.faults target.old) result }
         ensures called { D.called target.old Sync (is_ok result) target.new }

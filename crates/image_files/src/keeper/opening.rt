@@ -18,7 +18,8 @@ impl ImageKeeper {
         requires phase { self.old.phase ≡ Opening }
         ensures ok { OnOk result (self.new ≡ record self.old { phase = OpeningSync }) }
         ensures failed { OnErr result (self.new ≡ record self.old { phase = Down }) }
-        ensures goes_on { GoesOn D.honest D.content D.may_leave self.old self.new target.old target.new }
+        ensures goes_on { GoesOn D.honest D.content D.may_leave self.old
+            self.new target.old target.new }
         ensures lowers { OnOk result (left_of self.new < left_of self.old) }
         ensures faults { D.faults target.new ≡ counted (D.faults target.old) result }
         ensures called { D.called target.old (Write 0 (OPEN_GATE ∷ [])) (is_ok result) target.new }
@@ -31,13 +32,16 @@ impl ImageKeeper {
         Ok(())
     }
 
-    // Makes the open gate durable. The target then holds the newest image, and the files exchange their parts.
+    // Makes the open gate durable. The target then holds the newest image, and the files
+    // exchange their parts.
     pub(super) fn finish<D: Disk>(&mut self, target: &mut D) -> Result<u64, Refusal>
         requires phase { self.old.phase ≡ OpeningSync }
         ensures ok { OnOk result (self.new ≡ opened_keeper self.old) }
         ensures failed { OnErr result (self.new ≡ record self.old { phase = Down }) }
-        ensures opened { IfOk result (Opens D.honest D.content D.may_leave self.old self.new target.old target.new) }
-        ensures goes_on { OnErr result (GoesOn D.honest D.content D.may_leave self.old self.new target.old target.new) }
+        ensures opened { IfOk result
+            (Opens D.honest D.content D.may_leave self.old self.new target.old target.new) }
+        ensures goes_on { OnErr result
+            (GoesOn D.honest D.content D.may_leave self.old self.new target.old target.new) }
         ensures lowers { OnOk result (left_of self.new < left_of self.old) }
         ensures faults { D.faults target.new ≡ counted (D.faults target.old) result }
         ensures called { D.called target.old Sync (is_ok result) target.new }

@@ -124,8 +124,9 @@ fn ends<C: Capture>(core: &mut Core<C>, times: u32) {
 
 const NOTHING_NEW: Line = (1, Asked::Mark, PlainAnswer::Refused(Refusal::NothingNew));
 
-// Marks that are refused for one reason after another, while the earlier reasons still hold. The queue is full, and then a
-// round is open, the running tick has an action, and either keeper is down.
+// Marks that are refused for one reason after another, while the earlier reasons still
+// hold. The queue is full, and then a round is open, the running tick has an action, and
+// either keeper is down.
 const MARKS: [Line; 8] = [
     (1, Asked::Mark, PlainAnswer::Started(63)),
     (1, Asked::Mark, PlainAnswer::Refused(Refusal::Busy)),

@@ -292,8 +292,8 @@ const FOR_EACH_STORE: [(&[u8], &[u8]); 18] = [
         b"1\nset 0 1\nend\nmark\nimage*\nset 0 2\nend\nmark\nimage*\nset 0 3\nend\nmark\nimage*\nlog*\ncrash lose\nget 0\n",
         b"ready 0\n+\ntick 1\nmark 1\nimage open 1\n+\ntick 2\nmark 2\nimage open 2\n+\ntick 3\nmark 3\nimage open 3\nacked 3\nrecovered 3 from 3\n= 3\n",
     ),
-    // The records that an open image has leave the queue: a tick, and older switches with it. The numbers of later ticks
-    // continue.
+    // The records that an open image has leave the queue: a tick, and older switches with it. The
+    // numbers of later ticks continue.
     (
         b"1\nset 0 1\nend\nmark\ncover\nimage*\ncover\nlog*\nset 0 2\nend\nlog*\ncrash lose\nget 0\n",
         b"ready 0\n+\ntick 1\nmark 1\nidle\nimage open 1\nacked 1\nidle\n+\ntick 2\nacked 2\nrecovered 2 from 1\n= 2\n",
@@ -464,7 +464,8 @@ impl Write for Lengths {
     }
 }
 
-// Answers of 8 and of 600 bytes. They are written once there are 4,096 bytes or more, and the last ones at the end.
+// Answers of 8 and of 600 bytes. They are written once there are 4,096 bytes or more, and the last
+// ones at the end.
 #[test]
 fn long_answers_are_written_as_they_come(rt: HostRuntime) {
     let mut script = Script::new(rt.alloc());
@@ -550,7 +551,8 @@ fn a_full_writer_is_a_fault(rt: HostRuntime) {
     assert_eq!(rt; page.written(), b"".as_slice());
 }
 
-// If an allocation is refused, the script ends with `NoMemory` and whole answers, or it runs to its end.
+// If an allocation is refused, the script ends with `NoMemory` and whole answers, or it
+// runs to its end.
 #[test]
 fn wanting_memory_leaves_whole_answers(rt: HostRuntime) {
     let (ended, page) = run(rt.alloc(), TRANSFERS, 512);

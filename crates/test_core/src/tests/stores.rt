@@ -4,8 +4,8 @@ use shared_capture::{Joined, Pong, Zig};
 use std::test::Fail;
 use zigzag::Zigzag;
 
-// The words that the takes of a store represent, in five rounds over one list of writes, marks and takes. After the words of
-// each round comes 1 if it is still open, else 0.
+// The words that the takes of a store represent, in five rounds over one list of writes, marks and
+// takes. After the words of each round comes 1 if it is still open, else 0.
 fn captured<C: Capture>(rt: &HostRuntime, cells: usize) -> Result<Vec<u64>, Fail> {
     let mut image = vec![in rt.alloc(); 0; cells]?;
     let mut store = C::build(rt.alloc(), &image)?;

@@ -48,8 +48,8 @@ fn refused(alloc: Global, disks: &mut FourFiles<Fused<ModelFile>>) -> u8 {
     }
 }
 
-// Lets this call of one of the disks fail. Returns the code of the refusal, and how many files a second reading gives as
-// they were made.
+// Lets this call of one of the disks fail. Returns the code of the refusal, and how many files a
+// second reading gives as they were made.
 fn fails_once(alloc: Global, place: u32, call: u64) -> Result<(u8, u32), Refusal>
     requires { 1 ≤ call }
 {

@@ -41,7 +41,8 @@ fn fails_len(disk: &mut Fused<ModelFile>) -> bool {
     disk.len() == Err(Refusal::Device)
 }
 
-// Arms a sync to fail, and disarms it. True if the sync succeeds, and makes the written byte durable.
+// Arms a sync to fail, and disarms it. True if the sync succeeds, and makes the
+// written byte durable.
 fn syncs(disk: &mut Fused<ModelFile>) -> bool {
     disk.arm(1);
     disk.disarm();

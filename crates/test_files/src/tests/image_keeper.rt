@@ -224,7 +224,8 @@ fn opens_largest_images(rt: HostRuntime) -> Result<(), Fail> {
     Ok(())
 }
 
-// Returns how many moves are left before a round and at its beginning, and if the round is then open.
+// Returns how many moves are left before a round and at its beginning, and if the
+// round is then open.
 fn moves_of(alloc: Global, cells: u32, is_shut: bool) -> Result<(u64, u64, bool), Refusal>
     requires some_cells { 1 ≤ cells }
     requires most_cells { cells ≤ CELLS_MAX }
@@ -263,7 +264,8 @@ fn stays_down(
     was_down && again == ImageAnswer::Down && image_a.len() == Err(Refusal::Device)
 }
 
-// Runs a round in which this call of image.a fails. Returns its steps, its last answer, and if the keeper stays down then.
+// Runs a round in which this call of image.a fails. Returns its steps, its last answer, and if the
+// keeper stays down then.
 fn round_failing_at(alloc: Global, call: u64) -> Result<(u32, ImageAnswer, bool), Refusal>
     requires { 1 ≤ call }
 {

@@ -22,8 +22,8 @@ const AS_WANTED: u8 = 101;
 
 const OTHER: u8 = 102;
 
-// The outcome of reading an image: closed, open with this tick and these words, or open with others. If it is refused, the
-// outcome is the code of the refusal.
+// The outcome of reading an image: closed, open with this tick and these words, or open with
+// others. If it is refused, the outcome is the code of the refusal.
 fn outcome(alloc: Global, bytes: &[u8], want_tick: u64, want: &[u64]) -> u8 {
     match read_image(alloc, bytes) {
         Ok(ImageState::Closed) => CLOSED,
@@ -146,7 +146,8 @@ fn are_numbered(words: &[u64]) -> bool {
     true
 }
 
-// Returns the tick, how many words there are, and if each is the number of its cell. The error is the refusal.
+// Returns the tick, how many words there are, and if each is the number of its cell. The
+// error is the refusal.
 fn reported(alloc: Global, header: &[u8], cells: u32) -> Result<(u64, usize, bool), Refusal> {
     let image = numbered(alloc, header, cells)?;
     match read_image(alloc, &image)? {

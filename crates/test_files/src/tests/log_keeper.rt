@@ -22,10 +22,14 @@ fn queue_tick(
 ) -> Result<(), Refusal>
     requires follows { QueueFollows keeper.now queue.old.items }
     requires few { (end_of keeper.now queue.old.items).count < SEGMENT_TICKS }
-    requires numbered { (end_of keeper.now queue.old.items).base + (end_of keeper.now queue.old.items).count < TICK_MAX }
+    requires numbered { (end_of keeper.now queue.old.items).base
+        + (end_of keeper.now queue.old.items).count < TICK_MAX }
     ensures follows { QueueFollows keeper.now queue.new.items }
     ensures end { OnOk result (end_of keeper.now queue.new.items
-        ≡ record { base = (end_of keeper.now queue.old.items).base; count = (end_of keeper.now queue.old.items).count + 1 }) }
+        ≡ record {
+          base = (end_of keeper.now queue.old.items).base;
+          count = (end_of keeper.now queue.old.items).count + 1;
+        }) }
 {
     log_queues();
     let mut tick = Tick::new(alloc);
@@ -61,7 +65,8 @@ fn queue_switch(
     tick: u64,
 )
     requires follows { QueueFollows keeper.now queue.old.items }
-    requires last { (end_of keeper.now queue.old.items).base + (end_of keeper.now queue.old.items).count ≤ tick }
+    requires last { (end_of keeper.now queue.old.items).base
+        + (end_of keeper.now queue.old.items).count ≤ tick }
     requires most { tick ≤ TICK_MAX }
     ensures follows { QueueFollows keeper.now queue.new.items }
     ensures end { end_of keeper.now queue.new.items ≡ record { base = tick; count = 0 } }
@@ -84,8 +89,8 @@ fn acked(answer: LogAnswer) -> u64 {
     }
 }
 
-// Makes steps up to the first answer that isn't Working. Returns how many were answered Working, and `acked` of the other
-// one.
+// Makes steps up to the first answer that isn't Working. Returns how many were answered Working,
+// and `acked` of the other one.
 fn run(
     keeper: &mut LogKeeper,
     queue: &mut HeapCircularBuffer<Record>,
@@ -130,7 +135,8 @@ fn two_ticks(
     requires follows { QueueFollows keeper.now [] }
     requires first { end_of keeper.now [] ≡ record { base = 0; count = 0 } }
     ensures follows { IfOk result (λ queue. QueueFollows keeper.now queue.items) }
-    ensures end { IfOk result (λ queue. end_of keeper.now queue.items ≡ record { base = 1; count = 1 }) }
+    ensures end { IfOk result (λ queue. end_of keeper.now queue.items
+        ≡ record { base = 1; count = 1 }) }
 {
     let mut queue = HeapCircularBuffer::with_capacity(alloc, 8)?;
     let set = Action::Set { cell: 0, value: 5 };
@@ -218,8 +224,8 @@ fn writes_ticks_in_groups(rt: HostRuntime) -> Result<(), Fail> {
     Ok(())
 }
 
-// Covers nothing in front of a switch, and then only an older switch. Returns the work of the switch that is left, which is
-// at tick 3.
+// Covers nothing in front of a switch, and then only an older switch. Returns the work of the
+// switch that is left, which is at tick 3.
 fn cover_switches(
     rt: &impl Abort,
     keeper: &LogKeeper,

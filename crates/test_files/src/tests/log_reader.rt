@@ -10,7 +10,8 @@ const ONE_TICK: [u8; 28] = [
     1, 0, 0, 0, 0, 0, 0, 0, 0, 1, 1, 0, 1, 0, 1, 0, 0, 0, 0, 5, 0, 0, 0, 0, 0, 0, 0, 0,
 ];
 
-// The outcome of reading a segment: 200 if it is closed, the code of a refusal, else the number of ticks.
+// The outcome of reading a segment: 200 if it is closed, the code of a refusal, else the
+// number of ticks.
 fn outcome(alloc: Global, bytes: &[u8]) -> usize {
     match read_log(alloc, bytes) {
         Ok(LogState::Closed) => 200,
@@ -110,7 +111,8 @@ fn reads_each_action_of_the_second_format(rt: HostRuntime) {
     assert_eq!(rt; outcome(rt.alloc(), &bytes), 15);
 }
 
-// An open segment: a group of 32 ticks without an action, a group of one more, a closed gate, and bytes after it.
+// An open segment: a group of 32 ticks without an action, a group of one more, a closed gate,
+// and bytes after it.
 fn two_groups() -> [u8; 87] {
     let mut bytes = [0; 87];
     bytes[0] = 1;
@@ -200,7 +202,8 @@ fn outcome_of_tick(alloc: Global, more: u8) -> Result<usize, Refusal> {
     Ok(outcome(alloc, &bytes))
 }
 
-// A segment with this mark, of one action of this kind. The action has as many bytes as the longest one.
+// A segment with this mark, of one action of this kind. The action has as many bytes as
+// the longest one.
 fn action_of(mark: u8, kind: u8) -> [u8; 31] {
     let mut bytes = [0; 31];
     bytes[..14].copy_from_slice(&[1, 0, 0, 0, 0, 0, 0, 0, mark, 1, 1, 0, 1, 0]);

@@ -52,8 +52,8 @@ fn small_file(alloc: Global) -> Result<ModelFile, Refusal>
     Ok(file)
 }
 
-// Crashes a file so that it leaves these bytes. Returns the code of the refusal, or 0 if there is none, and the file after
-// it.
+// Crashes a file so that it leaves these bytes. Returns the code of the refusal, or 0 if there is
+// none, and the file after it.
 fn crash(file: ModelFile, left: Vec<u8>) -> (u8, ModelFile) {
     match file.crash(left) {
         Ok(file) => (0, file),
@@ -72,8 +72,8 @@ fn holds(file: &ModelFile, durable: &[u8], now: &[u8]) -> bool {
     file.durable() == durable && file.now() == now
 }
 
-// Crashes the torn file so that it leaves these bytes. Returns if the file allows them, the code of the crash, if the file
-// then has the right bytes, and if place 2 is uncertain.
+// Crashes the torn file so that it leaves these bytes. Returns if the file allows them, the code of
+// the crash, if the file then has the right bytes, and if place 2 is uncertain.
 fn crash_torn(
     alloc: Global,
     left: &[u8],
@@ -107,7 +107,8 @@ fn leaves_torn_write(rt: HostRuntime) -> Result<(), Fail> {
     Ok(())
 }
 
-// The codes of crashes that leave these bytes of the written file: before a sync, after a failed one, and after one.
+// The codes of crashes that leave these bytes of the written file: before a sync, after a failed
+// one, and after one.
 fn crash_codes(rt: &impl Abort, alloc: Global, left: &[u8]) -> Result<(u8, u8, u8), Refusal> {
     let before = crash_code(alloc, written_file(alloc)?, left)?;
     let after_failed = crash_code(alloc, unsynced_file(rt, alloc)?, left)?;
@@ -165,8 +166,8 @@ fn reports_uncertain_places(rt: HostRuntime) -> Result<(), Fail> {
     Ok(())
 }
 
-// Writes 64 bytes at the end of the small file. True if it is longer then, or if the device refused the write and nothing
-// has changed.
+// Writes 64 bytes at the end of the small file. True if it is longer then, or if the device refused
+// the write and nothing has changed.
 fn grows_or_stays(file: &mut ModelFile) -> bool
     requires { length file.old.content ≡ 3 }
     ensures { 3 ≤ length file.new.content }
@@ -227,7 +228,8 @@ fn stays(file: &ModelFile, bytes: &[u8]) -> bool {
     file.durable() == bytes && file.allows(bytes)
 }
 
-// Crashes a file so that it leaves these bytes. Returns the code, and how many bytes the file then has.
+// Crashes a file so that it leaves these bytes. Returns the code, and how many bytes
+// the file then has.
 fn crash_length(file: ModelFile, left: Vec<u8>) -> (u8, usize) {
     let (code, file) = crash(file, left);
     (code, file.now().len())

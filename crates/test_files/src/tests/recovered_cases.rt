@@ -2,8 +2,9 @@
 use std::alloc::Global;
 use world_actions::Refusal;
 
-// Files, byte by byte. An image has the gate, the number of cells, the tick and the words. The files are in the first format
-// here. A file becomes one of the second format by its mark in byte 8. From `pair` on each file has its own mark.
+// Files, byte by byte. An image has the gate, the number of cells, the tick and the words. The
+// files are in the first format here. A file becomes one of the second format by its mark in
+// byte 8. From `pair` on each file has its own mark.
 const FILES: &str = "\
 none
 gate      01
@@ -71,8 +72,8 @@ set@1     01 0100000000000000 01 0100 0100 01 01000000 0900000000000000 00
 set@1/2   01 0100000000000020 01 0100 0100 01 01000000 0900000000000000 00
 ";
 
-// The names of image.a, image.b, log.a and log.b, and the answer of recovery. It is the tick, the image's tick and file, and
-// the words, or the number of the refusal.
+// The names of image.a, image.b, log.a and log.b, and the answer of recovery. It is the tick, the
+// image's tick and file, and the words, or the number of the refusal.
 pub(crate) const CASES: &str = "\
 none    none    none     none    refused 13
 gate    none    none     none    refused 13
@@ -222,7 +223,8 @@ fn file_of(alloc: Global, name: &str, is_second: bool) -> Result<Vec<u8>, Refusa
     Ok(file)
 }
 
-// The four files that a line begins with, and the rest of the line. `mix` has a bit for the format of each file.
+// The four files that a line begins with, and the rest of the line. `mix` has a bit for the
+// format of each file.
 pub(crate) fn files_of(
     alloc: Global,
     line: &str,

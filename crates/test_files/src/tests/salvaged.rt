@@ -6,8 +6,9 @@ use std::process::Abort;
 use std::test::Fail;
 use world_actions::Refusal;
 
-// The names of image.a, image.b, log.a and log.b, and what is salvaged. It is the answer of recovery, and what is taken of
-// each file. Of an image this is its tick. Of a segment it is its base and the number of its ticks, and the place of a cut.
+// The names of image.a, image.b, log.a and log.b, and what is salvaged. It is the answer of
+// recovery, and what is taken of each file. Of an image this is its tick. Of a segment it is its
+// base and the number of its ticks, and the place of a cut.
 const SALVAGED: &str = "\
 none    none    none     none    refused 13
 none    none    set      add@1   refused 13

@@ -89,8 +89,8 @@ const TRIED: u8 = 1;
 
 const NOT_TRIED: u8 = 2;
 
-// Writes to a disk that is open for reading only. Returns the code of the failure, or 0 if the disk keeps no reason of one.
-// A write after the known length isn't tried.
+// Writes to a disk that is open for reading only. Returns the code of the failure, or 0 if the disk
+// keeps no reason of one. A write after the known length isn't tried.
 fn fail_write(disk: &mut FileDisk, at: u64) -> u8 {
     let _ = disk.take_failure();
     let answer = disk.write_at(at, &[9]);
@@ -144,8 +144,8 @@ fn faults_of_writes(disk: &mut FileDisk) -> u32 {
     faults
 }
 
-// Takes the failure, which is one of invalid input. Returns if it was kept, if it was the one taken, and if none is kept
-// then.
+// Takes the failure, which is one of invalid input. Returns if it was kept, if it was the one
+// taken, and if none is kept then.
 fn takes_failure(disk: &mut FileDisk) -> [bool; 3] {
     [
         is_invalid(disk.failure()),

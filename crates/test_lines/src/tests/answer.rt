@@ -7,7 +7,8 @@ use std::process::Abort;
 use world_actions::LIMIT;
 use world_ticks::{Tick, Words};
 
-// Answers the batch of a reader as the tick of this number. Returns the answer, and how many actions the tick has.
+// Answers the batch of a reader as the tick of this number. Returns the answer, and how many
+// actions the tick has.
 fn answered(
     rt: &impl Abort,
     alloc: Global,
@@ -82,7 +83,8 @@ fn answered_by(
     answered(rt, alloc, &mut words, reader, number)
 }
 
-// True if 256 actions are answered by a plus each, and the next by a refusal. Then comes the word that is got.
+// True if 256 actions are answered by a plus each, and the next by a refusal. Then comes the
+// word that is got.
 fn has_256_actions(text: &[u8]) -> bool {
     text.starts_with(b"tick 7: + + + ")
         && text.ends_with(b" + + -5 =256\n")

@@ -11,7 +11,8 @@ const BATCH: &[u8] = b"set 0 5\nget 0\nmove 0 1 9\nfoo\nend\n";
 
 const ANSWER: &[u8] = b"tick 1: + =5 -3 -16\n";
 
-// A world in memory, which loses nothing. The contract of `answer_text` defines what its batches do.
+// A world in memory, which loses nothing. The contract of `answer_text` defines what
+// its batches do.
 #[derive(Drop)]
 struct Memory {
     alloc: Global,
@@ -196,7 +197,8 @@ fn a_writer_that_fails_has_a_front(rt: HostRuntime) {
     }
 }
 
-// How many bytes of an input are left unread once an answer to it can't be written. The input comes byte by byte.
+// How many bytes of an input are left unread once an answer to it can't be written. The input
+// comes byte by byte.
 fn left_unread(rt: &impl Abort, alloc: Global, bytes: &[u8]) -> usize {
     let mut input = Pieces {
         bytes,

@@ -31,7 +31,8 @@ const TEXTS: [&[u8]; 4] = [
     b"tick 1: +\ntick 2: +\ntick 3: +\n",
 ];
 
-// The result of a run is the number of acknowledged ticks, or this number if the world wasn't opened.
+// The result of a run is the number of acknowledged ticks, or this number if the
+// world wasn't opened.
 const REFUSED: usize = 4;
 
 // True if it is the world after one of the ticks, and after at least the acknowledged ones.
@@ -128,7 +129,8 @@ fn all_are_met(rt: &impl Abort, met: &[u64]) {
     }
 }
 
-// Lets each call of a file fail in turn, and counts the results. Returns true if there are no more calls.
+// Lets each call of a file fail in turn, and counts the results. Returns true if there
+// are no more calls.
 fn fail_each_call<C: Capture>(
     rt: &impl Abort,
     alloc: Global,
@@ -183,7 +185,8 @@ fn is_new(found: &Recovered) -> bool {
     (found.tick, found.from) == (0, 0) && found.words.as_slice() == [0, 0].as_slice()
 }
 
-// Asserts that a crash leaves a new world, or none yet, if making it failed. Returns 0 for a new world, and 1 for none.
+// Asserts that a crash leaves a new world, or none yet, if making it failed. Returns 0 for a new
+// world, and 1 for none.
 fn new_or_none(rt: &impl Abort, alloc: Global, disks: &Disks, leaving: Leaving) -> usize {
     match after_crash(rt, alloc, disks, leaving) {
         Ok(found) => {
@@ -197,7 +200,8 @@ fn new_or_none(rt: &impl Abort, alloc: Global, disks: &Disks, leaving: Leaving) 
     }
 }
 
-// Tries crashes of files whose device failed while a new world was made. Counts the worlds that are left.
+// Tries crashes of files whose device failed while a new world was made. Counts the
+// worlds that are left.
 fn try_unmade(rt: &impl Abort, alloc: Global, disks: &Disks, refusal: Refusal, met: &mut [u64]) {
     same(rt, "a refusal", refusal, Refusal::Device);
     for leaving in LEAVINGS {
@@ -206,7 +210,8 @@ fn try_unmade(rt: &impl Abort, alloc: Global, disks: &Disks, refusal: Refusal, m
     }
 }
 
-// Makes a new world of these disks, one of which fails its k-th call. Returns if a world is made, and if the call failed.
+// Makes a new world of these disks, one of which fails its k-th call. Returns if a world is made,
+// and if the call failed.
 fn fail_making(
     rt: &impl Abort,
     alloc: Global,

@@ -1,4 +1,5 @@
-//! Four files in memory, one of which fails at one of its calls, and the bytes that a crash leaves of them.
+//! Four files in memory, one of which fails at one of its calls, and the bytes that a
+//! crash leaves of them.
 ghost use Rattle.std.specs.Prelude.{◌≤◌};
 
 use super::worlds::files_of;

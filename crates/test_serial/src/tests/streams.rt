@@ -81,8 +81,9 @@ fn serve_broken(
     page.bytes
 }
 
-/// Plays a session on a world of one cell. A call fails after this input is read, or after so many bytes of answers are
-/// written. Asserts the written text, and how many batches are acknowledged and recovered. Each has an image.
+/// Plays a session on a world of one cell. A call fails after this input is read, or after so many
+/// bytes of answers are written. Asserts the written text, and how many batches are acknowledged
+/// and recovered. Each has an image.
 pub fn try_broken(
     rt: &impl Abort,
     alloc: Global,

@@ -133,8 +133,8 @@ pub fn stands(
     same(rt, "the words", found.words.as_slice(), words);
 }
 
-/// A session: the recovered tick and that of its image, and the input. Then its end, its text, and the last acknowledged
-/// tick.
+/// A session: the recovered tick and that of its image, and the input. Then its end, its text, and
+/// the last acknowledged tick.
 #[derive(Clone, Copy)]
 pub struct Session<'a> {
     pub recovered: (u64, u64),
@@ -144,7 +144,8 @@ pub struct Session<'a> {
     pub acked: u64,
 }
 
-/// Serves a session on this input, which comes in pieces of at most so many bytes. Returns its end and its text.
+/// Serves a session on this input, which comes in pieces of at most so many bytes. Returns its
+/// end and its text.
 pub fn serve<C: Capture, D: Disk>(
     alloc: Global,
     served: &mut SerialWorld<C, D>,
@@ -175,8 +176,8 @@ pub fn play<C: Capture, D: Disk>(
     same(rt, "after the session", stands, (recovered, acked));
 }
 
-/// A session on a world that makes a checkpoint after so many ticks. `found` and `words` are then recovered from the durable
-/// bytes: the tick, that of the image, and the words.
+/// A session on a world that makes a checkpoint after so many ticks. `found` and `words` are then
+/// recovered from the durable bytes: the tick, that of the image, and the words.
 #[derive(Clone, Copy)]
 pub struct Case<'a> {
     pub every: u32,

@@ -6,8 +6,9 @@ use capture_core::{Capture, Taken};
 use std::alloc::Global;
 use std::process::Abort;
 
-// Checks rounds over some numbers of cells, with writes between them and between their takes. `reports_same` is true if takes
-// give `Same` for the cells that were not written since the mark before.
+// Checks rounds over some numbers of cells, with writes between them and between their
+// takes. `reports_same` is true if takes give `Same` for the cells that were not written
+// since the mark before.
 pub fn check_list<C: Capture>(rt: &impl Abort, alloc: Global, reports_same: bool) {
     for cells in [1, 63, 64, 65, 130] {
         let mut listed: Listed<C> = Listed::new(rt, alloc, cells, reports_same);
@@ -81,8 +82,8 @@ impl<C: Capture> Listed<C> {
             && self.reads(i)
     }
 
-    // Writes the cell that is as far from the end as this one is from the front. If takes give `Same`, each third turn
-    // writes nothing.
+    // Writes the cell that is as far from the end as this one is from the front. If takes give
+    // `Same`, each third turn writes nothing.
     fn writes_opposite(&mut self, i: usize, word: u64) -> bool {
         let cells = self.words.len();
         if self.reports_same && i % 3 == 0 {
@@ -91,7 +92,8 @@ impl<C: Capture> Listed<C> {
         i < cells && self.write(cells - 1 - i, word ^ 1)
     }
 
-    // True if the next take gives the word of a touched cell, or `Same` for another one if takes do so.
+    // True if the next take gives the word of a touched cell, or `Same` for another
+    // one if takes do so.
     fn takes(&mut self, word: u64, touched: bool) -> bool {
         let want = if touched || !self.reports_same {
             Taken::Word(word)

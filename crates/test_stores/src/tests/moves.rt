@@ -70,8 +70,8 @@ pub fn read<C: Capture>(store: &mut C, cell: usize) -> Option<u64> {
     Some(store.read(cell))
 }
 
-// The moves of a store over 5 and 7. It is marked, taken and written, and marked and taken again. A take of an untouched
-// cell gives its word.
+// The moves of a store over 5 and 7. It is marked, taken and written, and marked and taken again. A
+// take of an untouched cell gives its word.
 pub const TWO_ROUNDS: [Move; 13] = [
     Move::IsOpen(false),
     Move::Mark,

@@ -7,7 +7,8 @@ use capture_core::{Capture, copy_round};
 use std::alloc::Global;
 use std::process::Abort;
 
-// Checks the image of a round over 5 and 7 in which some cells change, and the image of the next round.
+// Checks the image of a round over 5 and 7 in which some cells change, and the image
+// of the next round.
 pub fn check_images<C: Capture>(
     rt: &impl Abort,
     alloc: Global,

@@ -6,7 +6,8 @@ ghost use Rattle.workers.specs.Publishing.{IsNext, reported};
 use shared_capture::{Back, Method, SignalIn, SignalOut, meet_signal};
 use std::marker::Model;
 
-/// Publishes the tick of a round's image while the back still has the round. Contracts see the ticks.
+/// Publishes the tick of a round's image while the back still has the round.
+/// Contracts see the ticks.
 #[derive(Drop)]
 pub struct Publisher {
     covers: SignalOut,
@@ -26,8 +27,8 @@ impl Publisher {
         Publisher { covers }
     }
 
-    /// Publishes the tick of an image that is open. A thread that later sees the end of the back's round finds the tick
-    /// published.
+    /// Publishes the tick of an image that is open. A thread that later sees the end of the back's
+    /// round finds the tick published.
     pub(crate) fn publish<M: Method>(&mut self, _back: &Back<M>, tick: u64)
         requires in_work { _back.now.working ≡ true }
         requires next { IsNext self.old tick }

@@ -4,7 +4,8 @@ ghost use Rattle.disk_model.specs.Disk.{OneCalledAtMostOnce};
 ghost use Rattle.image_files.specs.declared.phase.Phase.TheVariants.{Taking};
 ghost use Rattle.image_files.specs.Progress.{left_of};
 ghost use Rattle.workers.specs.declared.checkpointer.round.ImageWriter.{ImageWriter as Writer};
-ghost use Rattle.workers.specs.Imaging.{AreInStep, FollowsRounds, Publishes, RoundRuns, ReportsFaults, WriterFits};
+ghost use Rattle.workers.specs.Imaging.{AreInStep, FollowsRounds, Publishes, RoundRuns};
+ghost use Rattle.workers.specs.Imaging.{ReportsFaults, WriterFits};
 ghost use Rattle.workers.specs.Publishing.{IsNext};
 
 use crate::checkpointer::publisher::Publisher;
@@ -20,7 +21,8 @@ pub struct ImageWriter<D: Disk> {
     pub image_b: D,
 }
 
-// Makes a step of the round in work. If the step opens the image, its tick is published and the back ends the round.
+// Makes a step of the round in work. If the step opens the image, its tick is published and the
+// back ends the round.
 pub(crate) fn step<M: Method, D: Disk>(
     back: &mut Back<M>,
     covers: &mut Publisher,
@@ -35,12 +37,14 @@ pub(crate) fn step<M: Method, D: Disk>(
     ensures fits { IsTrue D.honest → WriterFits D.content images.new }
     ensures faults { ReportsFaults D.faults images.old images.new }
     ensures less { left_of images.new.keeper < left_of images.old.keeper }
-    ensures calls { OneCalledAtMostOnce D.called images.old.image_a images.new.image_a images.old.image_b images.new.image_b }
+    ensures calls { OneCalledAtMostOnce D.called images.old.image_a images.new.image_a
+        images.old.image_b images.new.image_b }
     ensures takes { images.old.keeper.phase ≡ Taking
         → (images.new.image_a ≡ images.old.image_a) × (images.new.image_b ≡ images.old.image_b) }
     ensures runs { RoundRuns back.old images.new.keeper back.new }
     ensures publishes { Publishes tick images.new.keeper covers.old covers.new }
-    ensures follows { (opening : Writer D) → FollowsRounds D.content D.may_leave D.honest opening images.old back.old
+    ensures follows { (opening : Writer D)
+        → FollowsRounds D.content D.may_leave D.honest opening images.old back.old
         → FollowsRounds D.content D.may_leave D.honest opening images.new back.new }
 {
     let ImageAnswer::Opened(_) = images

@@ -14,23 +14,26 @@ use action_log::{LogAnswer, Record, log_outcomes};
 use circular_buffer::HeapCircularBuffer;
 use disk_model::Disk;
 
-/// Takes the records from the queue that the open image of this tick has. If it has none of them, the keeper makes its next
-/// step.
+/// Takes the records from the queue that the open image of this tick has. If it has none of them,
+/// the keeper makes its next step.
 pub(crate) fn advance<D: Disk + Drop>(
     log: &mut Log<D>,
     queue: &mut HeapCircularBuffer<Record>,
     tick: u64,
 ) -> LogAnswer
-    requires fits { IsTrue D.honest → FitsFiles log.old.keeper (D.content log.old.a) (D.content log.old.b) }
+    requires fits { IsTrue D.honest
+        → FitsFiles log.old.keeper (D.content log.old.a) (D.content log.old.b) }
     requires follows { QueueFollows log.old.keeper queue.old.items }
     ensures covers { cover_answer log.old.keeper tick queue.old.items ≢ Idle → (log.new ≡ log.old)
         × (result ≡ cover_answer log.old.keeper tick queue.old.items)
         × (queue.new.items ≡ uncovered log.old.keeper tick queue.old.items) }
-    ensures advances { IsTrue D.honest → (logs : Logs) → LogStands D.content D.may_leave log.old logs
+    ensures advances { IsTrue D.honest → (logs : Logs)
+        → LogStands D.content D.may_leave log.old logs
         → (next : Logs) × LogStands D.content D.may_leave log.new next
         × Advances tick logs queue.old.items result next queue.new.items }
     ensures started { log.old.keeper.starting ≡ false → log.new.keeper.starting ≡ false }
-    ensures fits { IsTrue D.honest → FitsFiles log.new.keeper (D.content log.new.a) (D.content log.new.b) }
+    ensures fits { IsTrue D.honest
+        → FitsFiles log.new.keeper (D.content log.new.a) (D.content log.new.b) }
     ensures follows { QueueFollows log.new.keeper queue.new.items }
     ensures end { end_of log.new.keeper queue.new.items ≡ end_of log.old.keeper queue.old.items }
     ensures ring { queue.new.capacity ≡ queue.old.capacity }

@@ -1,5 +1,6 @@
 //! The answers that wait until their ticks are durable.
-ghost use Rattle.std.specs.Prelude.{◌≡◌, ◌+◌, ◌<◌, ◌≤◌, ◌++◌, ◌∷◌, [], length, IfOk, IsTrue, ◌↔◌, List, false};
+ghost use Rattle.std.specs.Prelude.{◌≡◌, ◌+◌, ◌<◌, ◌≤◌, ◌++◌, ◌∷◌, [], length, IfOk, IsTrue, ◌↔◌};
+ghost use Rattle.std.specs.Prelude.{List, false};
 ghost use Rattle.workers.specs.Posts.{Unposted};
 ghost use Rattle.workers.specs.Answering.{AreLater, Posts};
 ghost use Rattle.workers.specs.Logging.{IsDurable};
@@ -32,7 +33,8 @@ impl Given {
         requires next { next.number ≡ self.old.answered + 1 }
         requires durable { next.number ≤ receipt }
         requires held { IsTrue D.honest → IsDurable D.content D.may_leave holding.now next.number }
-        ensures { self.new ≡ record { answered = next.number; posted = record { tick = next.number } } }
+        ensures { self.new
+            ≡ record { answered = next.number; posted = record { tick = next.number } } }
     {
         self.answered = next.number();
         next.post(rt, receipt, holding, &mut self.posted);
@@ -60,7 +62,12 @@ impl Model for Answers {
 
     ghost Value = { Answering };
 
-    ghost view = { λ a. record { waiting = a.waiting.items; room = a.waiting.capacity; answered = a.given.answered; posted = a.given.posted.tick } };
+    ghost view = { λ a. record {
+      waiting = a.waiting.items;
+      room = a.waiting.capacity;
+      answered = a.given.answered;
+      posted = a.given.posted.tick;
+    } };
 
     ghost invariant = { λ a. AreNext a.given.answered a.waiting.items };
 }
@@ -68,7 +75,8 @@ impl Model for Answers {
 impl Answers {
     /// No answer waits, and the ticks up to this one are answered.
     pub(crate) fn new(alloc: Global, room: usize, tick: u64) -> Result<Self, AllocError>
-        ensures { IfOk result (λ a. a ≡ record { waiting = []; room = room; answered = tick; posted = tick }) }
+        ensures { IfOk result (λ a. a
+            ≡ record { waiting = []; room = room; answered = tick; posted = tick }) }
     {
         Ok(Answers {
             waiting: HeapCircularBuffer::with_capacity(alloc, room)?,
@@ -121,7 +129,10 @@ impl Answers {
     /// Refuses each answer, oldest first: the log is down.
     pub(crate) fn refuse_all<R: Wait>(&mut self, rt: &R)
         ensures { self.new
-            ≡ record self.old { waiting = []; answered = self.old.answered + length self.old.waiting } }
+            ≡ record self.old {
+              waiting = [];
+              answered = self.old.answered + length self.old.waiting;
+            } }
     {
         while let Some(next) = self.waiting.pop_front() {
             self.given.refuse(rt, next);
@@ -138,7 +149,8 @@ impl Answers {
     }
 
     fn first_is_durable(&self, receipt: Receipt) -> bool
-        ensures first { IsTrue result → (first : Unposted) × (rest : List Unposted) × (self.now.waiting ≡ first ∷ rest) × (first.number ≤ receipt) }
+        ensures first { IsTrue result → (first : Unposted) × (rest : List Unposted)
+            × (self.now.waiting ≡ first ∷ rest) × (first.number ≤ receipt) }
         ensures others { result ≡ false → AreLater receipt self.now.waiting }
     {
         match self.waiting.front() {

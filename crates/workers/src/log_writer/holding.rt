@@ -23,5 +23,11 @@ impl<'a, D: Disk + Drop> Model for Holding<'a, D> {
 
     ghost Value = { Held D };
 
-    ghost view = { λ h. record { opening = h.opening.now.value; from = h.from.now; covers = h.covers.now; log = h.log.now; ring = h.ring.now } };
+    ghost view = { λ h. record {
+      opening = h.opening.now.value;
+      from = h.from.now;
+      covers = h.covers.now;
+      log = h.log.now;
+      ring = h.ring.now;
+    } };
 }

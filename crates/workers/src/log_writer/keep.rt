@@ -12,7 +12,8 @@ use action_log::{LogKeeper, Record, log_queues};
 use circular_buffer::HeapCircularBuffer;
 use std::sync::Wait;
 
-/// Queues the record of an item, and lets its answer wait. Returns true if the item was the last one.
+/// Queues the record of an item, and lets its answer wait. Returns true if the item
+/// was the last one.
 pub(crate) fn keep(
     keeper: &LogKeeper,
     ring: &mut HeapCircularBuffer<Record>,
@@ -23,13 +24,16 @@ pub(crate) fn keep(
     requires goes { Goes (end_of keeper.now ring.old.items) item }
     requires next { answers.old.answered + length answers.old.waiting
         ≡ (end_of keeper.now ring.old.items).base + (end_of keeper.now ring.old.items).count }
-    requires most { (end_of keeper.now ring.old.items).base + (end_of keeper.now ring.old.items).count ≤ TICK_MAX }
+    requires most { (end_of keeper.now ring.old.items).base
+        + (end_of keeper.now ring.old.items).count ≤ TICK_MAX }
     requires ring { length ring.old.items < ring.old.capacity }
     requires room { length answers.old.waiting < answers.old.room }
     ensures follows { QueueFollows keeper.now ring.new.items }
-    ensures end { end_of keeper.now ring.new.items ≡ end_after (end_of keeper.now ring.old.items) item }
+    ensures end { end_of keeper.now ring.new.items
+        ≡ end_after (end_of keeper.now ring.old.items) item }
     ensures records { ring.new ≡ record ring.old { items = ring.old.items ++ record_of item } }
-    ensures answers { answers.new ≡ record answers.old { waiting = answers.old.waiting ++ answers_of item } }
+    ensures answers { answers.new
+        ≡ record answers.old { waiting = answers.old.waiting ++ answers_of item } }
     ensures last { result ≡ is_stop item }
 {
     log_queues();
@@ -53,7 +57,8 @@ pub(crate) fn keep(
 pub(crate) fn lose<R: Wait>(rt: &R, answers: &mut Answers, item: Item) -> bool
     requires none { answers.old.waiting ≡ [] }
     requires next { AreNext answers.old.answered (answers_of item) }
-    ensures answers { answers.new ≡ record answers.old { answered = answers.old.answered + length (answers_of item) } }
+    ensures answers { answers.new
+        ≡ record answers.old { answered = answers.old.answered + length (answers_of item) } }
     ensures last { result ≡ is_stop item }
 {
     match item {

@@ -1,4 +1,5 @@
-ghost use Rattle.std.specs.Prelude.{◌≡◌, ◌≢◌, ◌⊎◌, ◌↔◌, ◌≤◌, All, Err, None, IsTrue, IfOk, IfErr, OnErr};
+ghost use Rattle.std.specs.Prelude.{◌≡◌, ◌≢◌, ◌⊎◌, ◌↔◌, ◌≤◌, All, Err, None, IsTrue, IfOk, IfErr};
+ghost use Rattle.std.specs.Prelude.{OnErr};
 ghost use Rattle.world_actions.specs.World.{IsWord};
 ghost use Rattle.world_actions.specs.declared.world.TheConstants.{CELLS};
 ghost use Rattle.world_ticks.specs.declared.tick.TheConstants.{TICK_MAX};
@@ -20,8 +21,8 @@ use world_actions::Refusal;
 use world_ticks::Tick;
 
 impl<C: Capture> Parts<C> {
-    /// Builds the parts at the beginning of a start: at this tick, with these words, from this newest image, on files with
-    /// these bytes. It takes all memory that the start needs.
+    /// Builds the parts at the beginning of a start: at this tick, with these words, from this
+    /// newest image, on files with these bytes. It takes all memory that the start needs.
     pub fn begin(
         alloc: Global,
         cells: u32,
@@ -87,14 +88,18 @@ impl<C: Capture> Parts<C> {
             && self.log_b.inner().allows(&left.log_b)
     }
 
-    /// Restarts on the bytes that a crash left. All parts are new, and nothing of the old ones is kept.
+    /// Restarts on the bytes that a crash left. All parts are new, and nothing of the
+    /// old ones is kept.
     pub fn restart(&mut self, left: Remains) -> Result<Answer, Refusal>
         requires { (1 ≤ self.old.cells) × (self.old.cells ≤ CELLS) }
         ensures stands { IfOk result (λ answer. StandsOn self.old.cells
-            left.image_a.items left.image_b.items left.log_a.items left.log_b.items answer self.new) }
+            left.image_a.items left.image_b.items left.log_a.items
+            left.log_b.items answer self.new) }
         ensures unchanged { OnErr result (self.new ≡ self.old) }
-        ensures refused { IfErr result (λ refusal. (refusal ≡ Refusal.NoMemory) ⊎ ((refusal ≢ Refusal.NoImage)
-            × Recovers left.image_a.items left.image_b.items left.log_a.items left.log_b.items (Err refusal))) }
+        ensures refused { IfErr result (λ refusal. (refusal ≡ Refusal.NoMemory)
+            ⊎ ((refusal ≢ Refusal.NoImage)
+            × Recovers left.image_a.items left.image_b.items left.log_a.items
+            left.log_b.items (Err refusal))) }
     {
         let (parts, answer) = Parts::stand_on(self.alloc, self.cells, left)?;
         *self = parts;
@@ -106,8 +111,10 @@ impl<C: Capture> Parts<C> {
         requires { (1 ≤ cells) × (cells ≤ CELLS) }
         ensures stands { IfOk result (λ made. StandsOn cells
             left.image_a.items left.image_b.items left.log_a.items left.log_b.items made.1 made.0) }
-        ensures refused { IfErr result (λ refusal. (refusal ≡ Refusal.NoMemory) ⊎ ((refusal ≢ Refusal.NoImage)
-            × Recovers left.image_a.items left.image_b.items left.log_a.items left.log_b.items (Err refusal))) }
+        ensures refused { IfErr result (λ refusal. (refusal ≡ Refusal.NoMemory)
+            ⊎ ((refusal ≢ Refusal.NoImage)
+            × Recovers left.image_a.items left.image_b.items left.log_a.items
+            left.log_b.items (Err refusal))) }
     {
         match recover(
             alloc,
@@ -142,7 +149,8 @@ fn files_of(alloc: Global, left: Remains) -> Result<FourFiles<Fused<ModelFile>>,
     ensures image_b { IfOk result (λ files. HasOnly left.image_b.items files.image_b) }
     ensures log_a { IfOk result (λ files. HasOnly left.log_a.items files.log_a) }
     ensures log_b { IfOk result (λ files. HasOnly left.log_b.items files.log_b) }
-    ensures unarmed { IfOk result (λ files. (files.image_a.left ≡ None) × (files.image_b.left ≡ None)
+    ensures unarmed { IfOk result (λ files. (files.image_a.left ≡ None)
+        × (files.image_b.left ≡ None)
         × (files.log_a.left ≡ None) × (files.log_b.left ≡ None)) }
     ensures memory { IfErr result (λ refusal. refusal ≡ Refusal.NoMemory) }
 {

@@ -1,4 +1,5 @@
-ghost use Rattle.std.specs.Prelude.{◌≡◌, ◌≢◌, ◌+◌, ◌<◌, ◌≤◌, [], length, OnOk, OnErr, IfErr, Err, IsOk};
+ghost use Rattle.std.specs.Prelude.{◌≡◌, ◌≢◌, ◌+◌, ◌<◌, ◌≤◌, [], length, OnOk, OnErr, IfErr, Err};
+ghost use Rattle.std.specs.Prelude.{IsOk};
 ghost use Rattle.world_ticks.specs.declared.tick.TheConstants.{TICK_MAX};
 ghost use Rattle.world_ticks.specs.Tick.{decision};
 ghost use Rattle.image_files.specs.declared.phase.Phase.TheVariants.{Idle};

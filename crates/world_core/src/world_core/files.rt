@@ -22,7 +22,8 @@ impl<C: Capture> Core<C> {
         self.parts.file(name)
     }
 
-    /// Returns the bytes that such a crash leaves of the four files. Its only refusal is `NoMemory`.
+    /// Returns the bytes that such a crash leaves of the four files. Its only refusal
+    /// is `NoMemory`.
     pub fn remains(&self, leaving: Leaving) -> Result<Remains, Refusal>
         ensures left { IfOk result (AreLeft leaving self.now) }
         ensures memory { IfErr result (λ refusal. refusal ≡ Refusal.NoMemory) }

@@ -1,6 +1,7 @@
 ghost use Rattle.world_core.specs.Past.{Past};
 ghost use Rattle.world_core.specs.Facts.{IsCoreAt};
-ghost use Rattle.world_core.specs.Repeating.{RepeatsImages, RepeatsLog, RunsStart, ImagesSettled, LogSettled, StartSettled};
+ghost use Rattle.world_core.specs.Repeating.{RepeatsImages, RepeatsLog, RunsStart, ImagesSettled};
+ghost use Rattle.world_core.specs.Repeating.{LogSettled, StartSettled};
 
 use crate::moves::Fate;
 use crate::world_core::Core;
@@ -9,8 +10,8 @@ use capture_core::Capture;
 use image_files::ImageAnswer;
 
 impl<C: Capture> Core<C> {
-    /// Steps the image keeper until it is idle or down. Returns `Down`, or else the last image that was opened, or `Idle` if
-    /// none was.
+    /// Steps the image keeper until it is idle or down. Returns `Down`, or else the last image that
+    /// was opened, or `Idle` if none was.
     pub fn run_images(&mut self, fate: Fate) -> ImageAnswer
         ensures repeats { (past : Past) → IsCoreAt past self.old
             → (next : Past) × RepeatsImages fate past self.old result next self.new
@@ -28,7 +29,8 @@ impl<C: Capture> Core<C> {
         }
     }
 
-    /// Steps the log keeper until it is idle or down. Returns `Down`, or else the last receipt, or `Idle` if there was none.
+    /// Steps the log keeper until it is idle or down. Returns `Down`, or else the last receipt, or
+    /// `Idle` if there was none.
     pub fn run_log(&mut self, fate: Fate) -> LogAnswer
         ensures repeats { (past : Past) → IsCoreAt past self.old
             → (next : Past) × RepeatsLog fate past self.old result next self.new

@@ -14,8 +14,9 @@ use std::alloc::Global;
 use world_actions::Refusal;
 
 impl<C: Capture> Engine<C> {
-    /// Builds the engine at the beginning of a start: at this tick, with these words, from this newest image, on files with
-    /// these bytes. It takes all memory that the world needs besides its batches.
+    /// Builds the engine at the beginning of a start: at this tick, with these words, from this
+    /// newest image, on files with these bytes. It takes all memory that the world needs
+    /// besides its batches.
     pub fn begin(
         alloc: Global,
         cells: u32,
@@ -28,7 +29,8 @@ impl<C: Capture> Engine<C> {
         requires few { cells ≤ CELLS }
         requires numbered { tick ≤ TICK_MAX }
         requires words { All IsWord words.now }
-        ensures begins { IfOk result (Begins C.content cells newest tick words.now bytes.now.image_a.items
+        ensures begins { IfOk result
+            (Begins C.content cells newest tick words.now bytes.now.image_a.items
             bytes.now.image_b.items bytes.now.log_a.items bytes.now.log_b.items) }
         ensures memory { IfErr result (λ refusal. refusal ≡ Refusal.NoMemory) }
     {

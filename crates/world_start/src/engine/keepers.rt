@@ -1,4 +1,5 @@
-ghost use Rattle.std.specs.Prelude.{◌≡◌, ◌⊎◌, ◌+◌, ◌<◌, ◌≤◌, ◌++◌, ◌∷◌, [], None, true, false, IsTrue};
+ghost use Rattle.std.specs.Prelude.{◌≡◌, ◌⊎◌, ◌+◌, ◌<◌, ◌≤◌, ◌++◌, ◌∷◌, [], None, true, false};
+ghost use Rattle.std.specs.Prelude.{IsTrue};
 ghost use Rattle.image_files.specs.declared.phase.Phase.TheVariants.{Idle, Down};
 ghost use Rattle.image_files.specs.Images.{round_in};
 ghost use Rattle.action_log.specs.Progress.{work_of};
@@ -22,11 +23,13 @@ impl<C: Capture> Engine<C> {
         ensures ticks { RoundTick self.old.images self.new.images }
         ensures cells { self.new.images.cells ≡ self.old.images.cells }
         ensures live { (C.content self.new.store).live ≡ (C.content self.old.store).live }
-        ensures same { self.new ≡ record self.old { store = self.new.store; images = self.new.images } }
+        ensures same { self.new
+            ≡ record self.old { store = self.new.store; images = self.new.images } }
         ensures same_files { files.new
             ≡ record files.old { image_a = files.new.image_a; image_b = files.new.image_b } }
         ensures faults { ImageFaults D.faults self.old files.old self.new files.new }
-        ensures follows { IsTrue D.honest → StillFollows C.content D.content D.may_leave self.old files.old self.new files.new }
+        ensures follows { IsTrue D.honest
+            → StillFollows C.content D.content D.may_leave self.old files.old self.new files.new }
     {
         run_round(
             &mut self.store,
@@ -36,12 +39,14 @@ impl<C: Capture> Engine<C> {
         );
     }
 
-    /// Writes all queued records to the log, or the log goes down. In a start no round may be in work.
+    /// Writes all queued records to the log, or the log goes down. In a start no
+    /// round may be in work.
     pub fn write_log<D: Disk>(&mut self, files: &mut FourFiles<D>)
         requires log { LogInOrder C.content D.content D.honest self.old files.old }
         requires turn { (self.old.log.starting ≡ false) ⊎ (self.old.images.phase ≡ Idle) }
         ensures log { LogInOrder C.content D.content D.honest self.new files.new }
-        ensures rests { (self.new.log.down ≡ true) ⊎ (work_of self.new.log self.new.queue.items ≡ 0) }
+        ensures rests { (self.new.log.down ≡ true)
+            ⊎ (work_of self.new.log self.new.queue.items ≡ 0) }
         ensures started { self.old.log.starting ≡ false → self.new.log.starting ≡ false }
         ensures first { self.old.log.starting ≡ true → self.old.queue.items ≡ []
             → IsFirst self.new.log self.new.queue.items }
@@ -49,7 +54,8 @@ impl<C: Capture> Engine<C> {
         ensures same_files { files.new
             ≡ record files.old { log_a = files.new.log_a; log_b = files.new.log_b } }
         ensures faults { JournalFaults D.faults self.old files.old self.new files.new }
-        ensures follows { IsTrue D.honest → StillFollows C.content D.content D.may_leave self.old files.old self.new files.new }
+        ensures follows { IsTrue D.honest
+            → StillFollows C.content D.content D.may_leave self.old files.old self.new files.new }
     {
         images_stay::<D>();
         run_log(

@@ -16,8 +16,8 @@ use restart::worlds_go_on;
 use world_actions::Refusal;
 
 impl<C: Capture> Engine<C> {
-    /// Runs the start to its end. If it has a round, the image of its tick is written first. Then the log begins anew at
-    /// that tick. A device that fails ends the start.
+    /// Runs the start to its end. If it has a round, the image of its tick is written first. Then
+    /// the log begins anew at that tick. A device that fails ends the start.
     pub fn start<D: Disk>(&mut self, files: &mut FourFiles<D>) -> Result<(), Refusal>
         requires images { ImagesInOrder C.content D.content D.honest self.old files.old }
         requires log { LogInOrder C.content D.content D.honest self.old files.old }
@@ -30,14 +30,20 @@ impl<C: Capture> Engine<C> {
         ensures cells { self.new.images.cells ≡ self.old.images.cells }
         ensures live { (C.content self.new.store).live ≡ (C.content self.old.store).live }
         ensures newest { HasNewest self.old.images → HasNewest self.new.images }
-        ensures follows { IsTrue D.honest → StillFollows C.content D.content D.may_leave self.old files.old self.new files.new }
-        ensures acknowledges { IsTrue D.honest → (first : List ℕ) (ticks : List (List Action)) (acknowledged : ℕ)
+        ensures follows { IsTrue D.honest
+            → StillFollows C.content D.content D.may_leave self.old files.old self.new files.new }
+        ensures acknowledges { IsTrue D.honest
+            → (first : List ℕ) (ticks : List (List Action)) (acknowledged : ℕ)
             → Follows C.content D.content D.may_leave self.old files.old first ticks acknowledged
-            → OnOk result (Follows C.content D.content D.may_leave self.new files.new first ticks self.new.ended) }
+            → OnOk result
+            (Follows C.content D.content D.may_leave self.new files.new
+            first ticks self.new.ended) }
         ensures refused { IfErr result (λ refusal. refusal ≡ Refusal.Device) }
-        ensures device { (self.old.images.phase ≡ Down → ⊥) → self.old.log.down ≡ false → OnErr result
+        ensures device { (self.old.images.phase ≡ Down → ⊥)
+            → self.old.log.down ≡ false → OnErr result
             (SomeGrew (fault_counts D.faults files.old) (fault_counts D.faults files.new)) }
-        ensures no_fault { (self.old.images.phase ≡ Down → ⊥) → self.old.log.down ≡ false → OnOk result
+        ensures no_fault { (self.old.images.phase ≡ Down → ⊥)
+            → self.old.log.down ≡ false → OnOk result
             (fault_counts D.faults files.new ≡ fault_counts D.faults files.old) }
     {
         worlds_go_on();

@@ -79,7 +79,8 @@ impl Row {
     }
 }
 
-// Adds the moves of a part, and makes them on the core, from which the bytes that a crash leaves are taken.
+// Adds the moves of a part, and makes them on the core, from which the bytes that a crash
+// leaves are taken.
 fn add_part<C: Capture>(row: &mut Row, core: &mut Core<C>, part: Part<'_>) -> Result<(), Refusal> {
     match part {
         Part::Lines(lines) => add_lines(row, core, lines),
@@ -427,7 +428,8 @@ fn tick(number: u64) -> [Line; 2] {
     ]
 }
 
-// A switch into the segment that the start has shut takes four steps. A switch into another one takes six.
+// A switch into the segment that the start has shut takes four steps. A switch into
+// another one takes six.
 const SWITCHES: [Line; 9] = [
     (3, LOG, PlainAnswer::LogWorking),
     (1, LOG, PlainAnswer::LogAcked(1)),
@@ -462,8 +464,8 @@ fn switches_use_segments_again(rt: HostRuntime) -> Result<(), Fail> {
     Ok(())
 }
 
-// The ticks that an open image has leave the queue. In a start there are none, then those up to the first switch, and up to
-// the next.
+// The ticks that an open image has leave the queue. In a start there are none, then those up to the
+// first switch, and up to the next.
 #[test]
 fn open_images_cover_ticks(rt: HostRuntime) -> Result<(), Fail> {
     let before = [(1, Asked::Cover(0), PlainAnswer::Refused(Refusal::Starting))];
@@ -542,7 +544,8 @@ fn images_down(rt: HostRuntime) -> Result<(), Fail> {
     Ok(())
 }
 
-// There is no image until the start has written one, and no crash leaves a byte that was never written.
+// There is no image until the start has written one, and no crash leaves a byte that
+// was never written.
 #[test]
 fn starts_and_blanks(rt: HostRuntime) -> Result<(), Fail> {
     let failed = [
@@ -567,8 +570,8 @@ fn starts_and_blanks(rt: HostRuntime) -> Result<(), Fail> {
     Ok(())
 }
 
-// The second crash finds the image that the start after the first crash wrote. So the start after the second one has no
-// image to write. The second segment is shut since the first start.
+// The second crash finds the image that the start after the first crash wrote. So the start after
+// the second one has no image to write. The second segment is shut since the first start.
 #[test]
 fn crashes_twice(rt: HostRuntime) -> Result<(), Fail> {
     let image = [

@@ -69,8 +69,8 @@ impl<C: Capture> Beside<C> {
         write(&mut self.store, cell, word) && write(&mut self.plain, cell, word)
     }
 
-    // Takes a cell of both. Returns true if they have the same word. An unchanged cell of the store has its word of the
-    // image.
+    // Takes a cell of both. Returns true if they have the same word. An unchanged cell of the store
+    // has its word of the image.
     fn takes_same(&mut self, i: usize) -> bool {
         let taken = self.store.take();
         if let Some(Taken::Word(word)) = taken

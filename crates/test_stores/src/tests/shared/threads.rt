@@ -1,4 +1,5 @@
-// One thread writes and marks while another takes. Once both are joined, their rounds are known to agree.
+// One thread writes and marks while another takes. Once both are joined, their rounds
+// are known to agree.
 ghost use Rattle.std.specs.Prelude.{◌≡◌, ◌+◌, ◌<◌, [], true, length, All};
 ghost use Rattle.shared_capture.specs.declared.view.Round.{Round};
 ghost use Rattle.shared_capture.specs.Rounds.{Agree};
