@@ -76,7 +76,8 @@ two_again w v m n rest build lm ln =
     ∙ ap (λ o. o >>= (λ p. number_at v p.1 >>= (λ q. Some (build p.0 q.0, q.1)))) (number_again w m (number_bytes v n ++ rest) lm)
     ∙ ap (λ o. o >>= (λ q. Some (build m q.0, q.1))) (number_again v n rest ln)
 
-two_takes : {X : Type 0} (w v : ℕ) (build : ℕ → ℕ → X) (bytes : List ℕ) (x : X) (rest : List ℕ) → IsBytes bytes → two_at w v build bytes ≡ Some (x, rest) → (p : ℕ × ℕ) × Takes (TwoNumbers w v) (two_bytes w v) bytes p rest × (build p.0 p.1 ≡ x)
+two_takes : {X : Type 0} (w v : ℕ) (build : ℕ → ℕ → X) (bytes : List ℕ) (x : X) (rest : List ℕ) → IsBytes bytes
+    → two_at w v build bytes ≡ Some (x, rest) → (p : ℕ × ℕ) × Takes (TwoNumbers w v) (two_bytes w v) bytes p rest × (build p.0 p.1 ≡ x)
 unfolding two_at
 two_takes {X = X} w v build bytes x rest fits e =
     let p = bind_some (number_at w bytes) (λ one. number_at v one.1 >>= (λ other. Some (build one.0 other.0, other.1))) (x, rest) e in
@@ -93,7 +94,8 @@ two_takes {X = X} w v build bytes x rest fits e =
 
 -- ---- actions
 
-kind_takes : (kind w v : ℕ) (build : ℕ → ℕ → Action) → MakesKind kind w v build → (bytes : List ℕ) (x : Action) (rest : List ℕ) → IsBytes bytes → two_at w v build bytes ≡ Some (x, rest) → TakesKind kind bytes x rest
+kind_takes : (kind w v : ℕ) (build : ℕ → ℕ → Action) → MakesKind kind w v build → (bytes : List ℕ) (x : Action) (rest : List ℕ)
+    → IsBytes bytes → two_at w v build bytes ≡ Some (x, rest) → TakesKind kind bytes x rest
 kind_takes kind w v build makes bytes x rest fits e =
     let read = two_takes w v build bytes x rest fits e in
     let made = makes read.0.0 read.0.1 read.1.is.0 read.1.is.1 in
@@ -104,7 +106,8 @@ kind_takes kind w v build makes bytes x rest fits e =
       is = (made.1, made.2);
     })
 
-transfer_takes : (bytes : List ℕ) (x : Action) (rest : List ℕ) → IsBytes bytes → (number_at 4 bytes >>= (λ from. two_at 4 8 (Transfer from.0) from.1)) ≡ Some (x, rest) → TakesKind TRANSFER bytes x rest
+transfer_takes : (bytes : List ℕ) (x : Action) (rest : List ℕ) → IsBytes bytes
+    → (number_at 4 bytes >>= (λ from. two_at 4 8 (Transfer from.0) from.1)) ≡ Some (x, rest) → TakesKind TRANSFER bytes x rest
 transfer_takes bytes x rest fits e =
     let p = bind_some (number_at 4 bytes) (λ from. two_at 4 8 (Transfer from.0) from.1) (x, rest) e in
     let a = number_takes 4 bytes p.0.0 p.0.1 fits p.1 in
@@ -173,7 +176,9 @@ action_reads format = record { takes = action_takes format; again = action_again
 
 -- ---- a count and so many
 
-counted_takes : {X : Type 0} (one : Reader X) (Is : X → Type 0) (spelling : X → List ℕ) → Reads one Is spelling → (least most : ℕ) (bytes : List ℕ) (xs : List X) (rest : List ℕ) → IsBytes bytes → counted_at one least most bytes ≡ Some (xs, rest) → Takes (IsCounted Is least most) (counted_bytes spelling) bytes xs rest
+counted_takes : {X : Type 0} (one : Reader X) (Is : X → Type 0) (spelling : X → List ℕ) → Reads one Is spelling
+    → (least most : ℕ) (bytes : List ℕ) (xs : List X) (rest : List ℕ) → IsBytes bytes
+    → counted_at one least most bytes ≡ Some (xs, rest) → Takes (IsCounted Is least most) (counted_bytes spelling) bytes xs rest
 unfolding counted_at
 counted_takes one Is spelling r least most bytes xs rest fits e =
     let p = bind_some (number_at 2 bytes) (λ count. cond (ltb count.0 least || ltb most count.0) None (several_at one count.0 count.1)) (xs, rest) e in
@@ -185,12 +190,15 @@ counted_takes one Is spelling r least most bytes xs rest fits e =
     let high : p.0.0 ≤ most = ltb-false _ _ bounds.1 in
     let len : length xs ≡ p.0.0 = b.is.1 in
     record {
-      parts = a.parts ∙ ap (λ l. number_bytes 2 p.0.0 ++ l) b.parts ∙ ap (λ n. number_bytes 2 n ++ (flat_map spelling xs ++ rest)) (sym len) ∙ sym (append_assoc (number_bytes 2 (length xs)) (flat_map spelling xs) rest);
+      parts =
+          a.parts ∙ ap (λ l. number_bytes 2 p.0.0 ++ l) b.parts ∙ ap (λ n. number_bytes 2 n ++ (flat_map spelling xs ++ rest))
+          (sym len) ∙ sym (append_assoc (number_bytes 2 (length xs)) (flat_map spelling xs) rest);
       are_bytes = b.are_bytes;
       is = (omega arith, omega arith, b.is.0);
     }
 
-counted_again : {X : Type 0} (one : Reader X) (Is : X → Type 0) (spelling : X → List ℕ) → Reads one Is spelling → (least most : ℕ) → most < 2 ^ 16 → (xs : List X) (rest : List ℕ) → IsCounted Is least most xs → counted_at one least most (counted_bytes spelling xs ++ rest) ≡ Some (xs, rest)
+counted_again : {X : Type 0} (one : Reader X) (Is : X → Type 0) (spelling : X → List ℕ) → Reads one Is spelling → (least most : ℕ)
+    → most < 2 ^ 16 → (xs : List X) (rest : List ℕ) → IsCounted Is least most xs → counted_at one least most (counted_bytes spelling xs ++ rest) ≡ Some (xs, rest)
 unfolding counted_at
 counted_again one Is spelling r least most small xs rest f =
     let in_range : (ltb (length xs) least || ltb most (length xs)) ≡ false = or_both (ltb (length xs) least) (ltb most (length xs)) (le-ltb _ _ f.0) (le-ltb _ _ f.1) in
@@ -201,7 +209,10 @@ counted_again one Is spelling r least most small xs rest f =
 
 pub tick_reads : (format : Format) → Reads (tick_at format) (IsTick format) tick_bytes
 tick_reads format = record {
-  takes = λ bytes x rest fits e. (let t = counted_takes (action_at format) (IsAction format) action_bytes (action_reads format) 0 TICK_ACTIONS bytes x rest fits e in record { parts = t.parts; are_bytes = t.are_bytes; is = (t.is.1, t.is.2) });
+  takes =
+      λ bytes x rest fits e.
+      (let t = counted_takes (action_at format) (IsAction format) action_bytes (action_reads format) 0 TICK_ACTIONS bytes x rest
+      fits e in record { parts = t.parts; are_bytes = t.are_bytes; is = (t.is.1, t.is.2) });
   again = λ x rest f. counted_again (action_at format) (IsAction format) action_bytes (action_reads format) 0 TICK_ACTIONS (omega arith) x rest (omega arith, f.0, f.1);
 }
 

@@ -36,7 +36,8 @@ not_here : (tick : ℕ) (first : Record) (queue : List Record) → is_switch tic
 not_here tick first queue is = ap (λ here. if here then Some 0 else option_map suc (switch_place tick queue)) is
 
 -- a record that isn't the switch leaves it to come
-pub place_push : (tick : ℕ) (queue : List Record) (i : ℕ) (first : Record) → slice_get queue i ≡ Some first → is_switch tick first ≡ false → switch_place tick (take i queue) ≡ None → switch_place tick (take (suc i) queue) ≡ None
+pub place_push : (tick : ℕ) (queue : List Record) (i : ℕ) (first : Record) → slice_get queue i ≡ Some first
+    → is_switch tick first ≡ false → switch_place tick (take i queue) ≡ None → switch_place tick (take (suc i) queue) ≡ None
 place_push tick [] i first get not none = absurd cc
 place_push tick (x ∷ queue) zero first get not none = let e : x ≡ first = cc in ap (λ (r : Record). switch_place tick (r ∷ [])) e ∙ not_here tick first [] not
 place_push tick (x ∷ queue) (suc i) first get not none =
@@ -44,7 +45,8 @@ place_push tick (x ∷ queue) (suc i) first get not none =
     not_here tick x (take (suc i) queue) rest.0 ∙ ap (option_map suc) (place_push tick queue i first get not rest.1)
 
 -- the first one that is the switch is in its place
-pub place_found : (tick : ℕ) (queue : List Record) (i : ℕ) (first : Record) → slice_get queue i ≡ Some first → is_switch tick first ≡ true → switch_place tick (take i queue) ≡ None → switch_place tick queue ≡ Some i
+pub place_found : (tick : ℕ) (queue : List Record) (i : ℕ) (first : Record) → slice_get queue i ≡ Some first
+    → is_switch tick first ≡ true → switch_place tick (take i queue) ≡ None → switch_place tick queue ≡ Some i
 place_found tick [] i first get is none = absurd cc
 place_found tick (x ∷ queue) zero first get is none =
     let e : x ≡ first = cc in
@@ -147,7 +149,8 @@ fits_from base count (records.Switch number ∷ queue) (suc n) tick behind is fi
     let rest = fits_from number 0 queue n tick behind is fits.2 in
     ((omega (arith, rest.0.0, fits.0), rest.0.1, rest.0.2), rest.1)
 
-pub fits_left : (base count tick : ℕ) (queue : List Record) (n : ℕ) → IsBeforeSwitch tick queue n → QueueFits base count queue → QueueFits base count (drop n queue) × (queue_end base count (drop n queue) ≡ queue_end base count queue)
+pub fits_left : (base count tick : ℕ) (queue : List Record) (n : ℕ) → IsBeforeSwitch tick queue n → QueueFits base count queue
+    → QueueFits base count (drop n queue) × (queue_end base count (drop n queue) ≡ queue_end base count queue)
 fits_left base count tick queue n (inl none) fits = subst (λ (m : ℕ). QueueFits base count (drop m queue) × (queue_end base count (drop m queue) ≡ queue_end base count queue)) (sym none) (fits, refl)
 fits_left base count tick queue n (inr at) fits =
     let from = fits_from base count queue n tick at.0 at.1 fits in
@@ -186,7 +189,8 @@ pub follows_left : (keeper : Progress) (tick : ℕ) (queue : List Record) → ke
     → QueueFollows keeper (drop (before_switch tick queue) queue) × (end_of keeper (drop (before_switch tick queue) queue) ≡ end_of keeper queue)
 follows_left keeper tick queue is follows = follows_by keeper.phase keeper.base keeper.count keeper.next_base tick queue (before_switch tick queue) is (before_switch_is tick queue) follows
 
-pub work_falls : (keeper : Progress) (tick : ℕ) (queue : List Record) (n : ℕ) → n ≤ length queue → (answer_of tick (take n queue) ≡ answer.Idle) ⊎ (work_of keeper (drop n queue) < work_of keeper queue)
+pub work_falls : (keeper : Progress) (tick : ℕ) (queue : List Record) (n : ℕ) → n ≤ length queue
+    → (answer_of tick (take n queue) ≡ answer.Idle) ⊎ (work_of keeper (drop n queue) < work_of keeper queue)
 work_falls keeper tick queue n most = elim (cases_lt 0 n) [
   | inl some ↦ inr (omega (arith, work_left queue n some most))
   | inr none ↦ inl (let e : n ≡ 0 = omega (arith, none) in ap (λ (m : ℕ). answer_of tick (take m queue)) e)
@@ -202,7 +206,8 @@ all_left queue n most none = let e : n ≡ 0 = omega (arith, most, ap length non
 
 -- ---- the step
 
-step_by : (logs : Logs) (tick : ℕ) (queue taken left : List Record) (has : Bool) → has_tick taken ≡ has → queue ≡ taken ++ left → (0 < length taken → is_idle logs × ((behind : List Record) × (left ≡ records.Switch tick ∷ behind)))
+step_by : (logs : Logs) (tick : ℕ) (queue taken left : List Record) (has : Bool) → has_tick taken ≡ has → queue ≡ taken ++ left
+    → (0 < length taken → is_idle logs × ((behind : List Record) × (left ≡ records.Switch tick ∷ behind)))
     → CoverStep logs queue tick (answer_of tick taken) left
 step_by logs tick queue [] left has is e at = sym e
 step_by logs tick queue (first ∷ taken) left true is e at =

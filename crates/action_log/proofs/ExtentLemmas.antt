@@ -1,5 +1,6 @@
 -- How far the groups of a segment go, and what the first bytes of a segment say of all of it.
-use Rattle.std.proofs.Common.{◌≡◌, ◌≢◌, ◌⊎◌, inl, inr, ℕ, ◌+◌, ◌-◌, ◌*◌, ◌<◌, ◌≤◌, min, Bool, true, false, List, [], ◌∷◌, ◌++◌, length, get_or, take, drop, Some, None, refl, sym, ap, subst, ◌∙◌, append_assoc, arith}
+use Rattle.std.proofs.Common.{◌≡◌, ◌≢◌, ◌⊎◌, inl, inr, ℕ, ◌+◌, ◌-◌, ◌*◌, ◌<◌, ◌≤◌, min, Bool, true, false, List, [], ◌∷◌, ◌++◌}
+use Rattle.std.proofs.Common.{length, get_or, take, drop, Some, None, refl, sym, ap, subst, ◌∙◌, append_assoc, arith}
 use Rattle.std.specs.List.{flat_map, AllByRecursion}
 use Rattle.std.proofs.lemmas.Bool.Decides.{eqb_tells}
 use Rattle.std.proofs.lemmas.List.{drop_at, take_at, take-append-drop, take-append-le, drop-append-le, length-append, length-take-le, append-nil, get_or_append_left}
@@ -13,7 +14,8 @@ use Rattle.file_format.specs.Format.{marked_of, marked_in}
 use Rattle.file_format.proofs.NumberLemmas.{length-number_bytes, number_bytes-number_of}
 use Rattle.file_format.proofs.FormatLemmas.{marked_of-unmarked}
 use Rattle.action_log.specs.declared.format.TheConstants.{BASE_BYTES, BASE_PLACE, FIRST_GROUP, HEADER_BYTES, SEGMENT_TICKS, TICK_BYTES, ONE_TICK_GROUP_BYTES, SEGMENT_BYTES_MAX}
-use Rattle.action_log.specs.Segment.{Tick, joined, IsTick, tick_bytes, IsGroup, group_bytes, EndsGroups, spelled_base, Segment, ClosedSegment, MalformedSegment, OpenSegment, IsSegment, IsClosedSegment, IsOpenSegment}
+use Rattle.action_log.specs.Segment.{Tick, joined, IsTick, tick_bytes, IsGroup, group_bytes, EndsGroups, spelled_base, Segment}
+use Rattle.action_log.specs.Segment.{ClosedSegment, MalformedSegment, OpenSegment, IsSegment, IsClosedSegment, IsOpenSegment}
 use Rattle.action_log.specs.Extent.{HasGroups, HasNoGroups, IsExtent, ReadsAlike, AreLeading}
 use Rattle.action_log.specs.Reading.{group_at}
 use Rattle.action_log.proofs.ValueReadingLemmas.{IsBytes-drop, IsBytes-rest, found_is}
@@ -33,7 +35,8 @@ none_at_end [] group next ends e = cc
 none_at_end (gate ∷ rest) group next ends e = ends (no_gate gate rest (counted_bytes tick_bytes group ++ next) e)
 
 -- the group after an open gate is read
-group_there : (format : Format) (rest behind : List ℕ) (group : List Tick) (next : List ℕ) → IsGroup format group → rest ≡ OPEN_GATE ∷ behind → rest ≡ group_bytes group ++ next → group_at format behind ≡ Some (group, next)
+group_there : (format : Format) (rest behind : List ℕ) (group : List Tick) (next : List ℕ) → IsGroup format group
+    → rest ≡ OPEN_GATE ∷ behind → rest ≡ group_bytes group ++ next → group_at format behind ≡ Some (group, next)
 group_there format rest behind group next is gate e =
     let same : behind ≡ counted_bytes tick_bytes group ++ next = ap (drop 1) (sym gate ∙ e) in
     ap (group_at format) same ∙ (group_reads format).again group next is
@@ -52,7 +55,9 @@ module _ (format : Format) (most : ℕ) where
   counted_none bytes fits = record { groups = []; are_groups = tt; parts = refl; counted = refl; few = omega arith; are_bytes = fits }
 
   -- one more group is counted, and the bytes left are fewer
-  pub counted_more : (bytes : List ℕ) (ticks : ℕ) (rest behind : List ℕ) (group : List Tick) (next : List ℕ) → IsCounted bytes ticks rest → rest ≡ OPEN_GATE ∷ behind → group_at format behind ≡ Some (group, next) → ticks + length group ≤ most → IsCounted bytes (ticks + length group) next × (length next < length rest)
+  pub counted_more : (bytes : List ℕ) (ticks : ℕ) (rest behind : List ℕ) (group : List Tick) (next : List ℕ)
+      → IsCounted bytes ticks rest → rest ≡ OPEN_GATE ∷ behind → group_at format behind ≡ Some (group, next)
+      → ticks + length group ≤ most → IsCounted bytes (ticks + length group) next × (length next < length rest)
   counted_more bytes ticks rest behind group next so_far gate e few =
       let fits = IsBytes-rest OPEN_GATE behind (subst IsBytes gate so_far.are_bytes) in
       let taken = (group_reads format).takes behind group next fits e in
@@ -71,7 +76,9 @@ module _ (format : Format) (most : ℕ) where
         omega (arith, ap length there, length-append (group_bytes group) next),
       )
 
-  leading_by : (bytes : List ℕ) (ticks : ℕ) (rest : List ℕ) (so_far : IsCounted bytes ticks rest) → ((group : List Tick) (next : List ℕ) → IsGroup format group → rest ≡ group_bytes group ++ next → most < ticks + length group) → (groups : List (List Tick)) × AreLeading format most bytes groups rest × (length (joined groups) ≡ ticks)
+  leading_by : (bytes : List ℕ) (ticks : ℕ) (rest : List ℕ) (so_far : IsCounted bytes ticks rest)
+      → ((group : List Tick) (next : List ℕ) → IsGroup format group → rest ≡ group_bytes group ++ next
+      → most < ticks + length group) → (groups : List (List Tick)) × AreLeading format most bytes groups rest × (length (joined groups) ≡ ticks)
   leading_by bytes ticks rest so_far last = (
     so_far.groups,
     record {
@@ -84,21 +91,29 @@ module _ (format : Format) (most : ℕ) where
   )
 
   -- no group follows: at the end of the groups, at bytes that are no group, and at a group with too many ticks
-  pub leading_to_end : (bytes : List ℕ) (ticks : ℕ) (rest : List ℕ) → IsCounted bytes ticks rest → EndsGroups rest → (groups : List (List Tick)) × AreLeading format most bytes groups rest × (length (joined groups) ≡ ticks)
+  pub leading_to_end : (bytes : List ℕ) (ticks : ℕ) (rest : List ℕ) → IsCounted bytes ticks rest → EndsGroups rest
+      → (groups : List (List Tick)) × AreLeading format most bytes groups rest × (length (joined groups) ≡ ticks)
   leading_to_end bytes ticks rest so_far ends = leading_by bytes ticks rest so_far (λ group next is e. absurd (none_at_end rest group next ends e))
 
-  pub leading_to_bad : (bytes : List ℕ) (ticks : ℕ) (rest behind : List ℕ) → IsCounted bytes ticks rest → rest ≡ OPEN_GATE ∷ behind → group_at format behind ≡ None → (groups : List (List Tick)) × AreLeading format most bytes groups rest × (length (joined groups) ≡ ticks)
+  pub leading_to_bad : (bytes : List ℕ) (ticks : ℕ) (rest behind : List ℕ) → IsCounted bytes ticks rest
+      → rest ≡ OPEN_GATE ∷ behind → group_at format behind ≡ None → (groups : List (List Tick)) × AreLeading format most bytes groups rest × (length (joined groups) ≡ ticks)
   leading_to_bad bytes ticks rest behind so_far gate none =
       leading_by bytes ticks rest so_far (λ group next is e. (let there = group_there format rest behind group next is gate e in absurd cc))
 
-  pub leading_to_many : (bytes : List ℕ) (ticks : ℕ) (rest behind : List ℕ) (many : List Tick) (after : List ℕ) → IsCounted bytes ticks rest → rest ≡ OPEN_GATE ∷ behind → group_at format behind ≡ Some (many, after) → most < ticks + length many → (groups : List (List Tick)) × AreLeading format most bytes groups rest × (length (joined groups) ≡ ticks)
+  pub leading_to_many : (bytes : List ℕ) (ticks : ℕ) (rest behind : List ℕ) (many : List Tick) (after : List ℕ)
+      → IsCounted bytes ticks rest → rest ≡ OPEN_GATE ∷ behind → group_at format behind ≡ Some (many, after)
+      → most < ticks + length many → (groups : List (List Tick)) × AreLeading format most bytes groups rest × (length (joined groups) ≡ ticks)
   leading_to_many bytes ticks rest behind many after so_far gate read more =
       leading_by bytes ticks rest so_far (λ group next is e. (
       let same = found_is (many, after) (group, next) (sym read ∙ group_there format rest behind group next is gate e) in
       omega (arith, more, ap (λ (p : List Tick × List ℕ). length p.0) same)))
 
   -- no other groups go further
-  furthest : (so_far : ℕ) (done groups : List (List Tick)) (bytes rest other : List ℕ) → AllByRecursion (IsGroup format) done → AllByRecursion (IsGroup format) groups → bytes ≡ flat_map group_bytes done ++ rest → bytes ≡ flat_map group_bytes groups ++ other → ((group : List Tick) (next : List ℕ) → IsGroup format group → rest ≡ group_bytes group ++ next → most < (so_far + length (joined done)) + length group) → so_far + length (joined groups) ≤ most → length rest ≤ length other
+  furthest : (so_far : ℕ) (done groups : List (List Tick)) (bytes rest other : List ℕ) → AllByRecursion (IsGroup format) done
+      → AllByRecursion (IsGroup format) groups → bytes ≡ flat_map group_bytes done ++ rest
+      → bytes ≡ flat_map group_bytes groups ++ other
+      → ((group : List Tick) (next : List ℕ) → IsGroup format group → rest ≡ group_bytes group ++ next
+      → most < (so_far + length (joined done)) + length group) → so_far + length (joined groups) ≤ most → length rest ≤ length other
   furthest so_far done [] bytes rest other are are_other e f last few = omega (arith, ap length e, ap length f, length-append (flat_map group_bytes done) rest)
   furthest so_far [] (group ∷ groups) bytes rest other are are_other e f last few =
       let more = last group (flat_map group_bytes groups ++ other) are_other.0 (sym e ∙ f ∙ append_assoc (group_bytes group) (flat_map group_bytes groups) other) in
@@ -110,8 +125,11 @@ module _ (format : Format) (most : ℕ) where
       (λ another next is there. omega (arith, last another next is there, length-append one (joined done)))
       (omega (arith, few, ap (λ (l : List Tick). length l) same.0, length-append group (joined groups)))
 
-  pub leading_furthest : (bytes : List ℕ) (done : List (List Tick)) (rest : List ℕ) → AreLeading format most bytes done rest → (groups : List (List Tick)) (other : List ℕ) → AllByRecursion (IsGroup format) groups → bytes ≡ flat_map group_bytes groups ++ other → length (joined groups) ≤ most → length rest ≤ length other
-  leading_furthest bytes done rest leads groups other are e few = furthest 0 done groups bytes rest other leads.are_groups are leads.parts e (λ group next is there. omega (arith, leads.last group next is there)) (omega (arith, few))
+  pub leading_furthest : (bytes : List ℕ) (done : List (List Tick)) (rest : List ℕ) → AreLeading format most bytes done rest
+      → (groups : List (List Tick)) (other : List ℕ) → AllByRecursion (IsGroup format) groups
+      → bytes ≡ flat_map group_bytes groups ++ other → length (joined groups) ≤ most → length rest ≤ length other
+  leading_furthest bytes done rest leads groups other are e few =
+      furthest 0 done groups bytes rest other leads.are_groups are leads.parts e (λ group next is there. omega (arith, leads.last group next is there)) (omega (arith, few))
 
 -- ---- the header in front of them
 
@@ -119,7 +137,8 @@ module _ (format : Format) (most : ℕ) where
 has_mark : (bytes : List ℕ) (format : Format) (base : ℕ) (groups : List (List Tick)) (rest : List ℕ) → HasGroups bytes format base groups rest → marked_in bytes ≡ Some (format, base)
 has_mark bytes format base groups rest has = ap marked_in has.spelled ∙ mark_again format base (flat_map group_bytes groups ++ rest) (omega (arith, has.numbered))
 
-has_body : (bytes : List ℕ) (format : Format) (base : ℕ) (groups : List (List Tick)) (rest : List ℕ) → HasGroups bytes format base groups rest → drop FIRST_GROUP bytes ≡ flat_map group_bytes groups ++ rest
+has_body : (bytes : List ℕ) (format : Format) (base : ℕ) (groups : List (List Tick)) (rest : List ℕ)
+    → HasGroups bytes format base groups rest → drop FIRST_GROUP bytes ≡ flat_map group_bytes groups ++ rest
 has_body bytes format base groups rest has =
     ap (drop FIRST_GROUP) has.spelled ∙ drop_at (spelled_base format base) (flat_map group_bytes groups ++ rest) BASE_BYTES (length-number_bytes BASE_BYTES (marked_of format base))
 
@@ -131,21 +150,28 @@ within_most : (base count : ℕ) → count ≤ SEGMENT_TICKS → base + count �
 within_most base count few numbered = omega arith
 
 -- groups after a mark that is read
-pub has_groups : (bytes : List ℕ) (format : Format) (base : ℕ) (groups : List (List Tick)) (rest : List ℕ) → IsBytes bytes → HEADER_BYTES ≤ length bytes → get_or bytes 0 0 ≡ OPEN_GATE → marked_in bytes ≡ Some (format, base) → base ≤ TICK_MAX → AreLeading format (ticks_most base) (drop FIRST_GROUP bytes) groups rest → HasGroups bytes format base groups rest
+pub has_groups : (bytes : List ℕ) (format : Format) (base : ℕ) (groups : List (List Tick)) (rest : List ℕ) → IsBytes bytes
+    → HEADER_BYTES ≤ length bytes → get_or bytes 0 0 ≡ OPEN_GATE → marked_in bytes ≡ Some (format, base) → base ≤ TICK_MAX
+    → AreLeading format (ticks_most base) (drop FIRST_GROUP bytes) groups rest → HasGroups bytes format base groups rest
 has_groups bytes format base groups rest fits long gate mark small leads =
     let behind = drop BASE_PLACE bytes in
     let front : spelled_base format base ≡ take BASE_BYTES behind =
-    ap (number_bytes BASE_BYTES) (sym (marked_of-unmarked (number_of BASE_BYTES behind) format base mark).0) ∙ number_bytes-number_of BASE_BYTES behind (IsBytes-drop BASE_PLACE bytes fits) (omega (arith, long, Rattle.std.proofs.lemmas.List.length-drop BASE_PLACE bytes)) in
+    ap (number_bytes BASE_BYTES) (sym (marked_of-unmarked (number_of BASE_BYTES behind) format base mark).0)
+    ∙ number_bytes-number_of BASE_BYTES behind (IsBytes-drop BASE_PLACE bytes fits) (omega (arith, long, Rattle.std.proofs.lemmas.List.length-drop BASE_PLACE bytes)) in
     record {
       are_groups = leads.are_groups;
-      spelled = header_parts bytes (record { long = long; gate = gate }) ∙ ap (λ (l : List ℕ). OPEN_GATE ∷ (l ++ drop FIRST_GROUP bytes)) (sym front) ∙ ap (λ (l : List ℕ). OPEN_GATE ∷ (spelled_base format base ++ l)) leads.parts;
+      spelled =
+          header_parts bytes (record { long = long; gate = gate }) ∙ ap
+          (λ (l : List ℕ). OPEN_GATE ∷ (l ++ drop FIRST_GROUP bytes)) (sym front) ∙ ap (λ (l : List ℕ). OPEN_GATE ∷ (spelled_base format base ++ l)) leads.parts;
       long = long;
       few = omega (arith, leads.few);
       numbered = omega (arith, leads.few, small);
     }
 
 -- groups of the same bytes go no further
-pub has_furthest : (bytes : List ℕ) (format : Format) (base : ℕ) (done : List (List Tick)) (rest : List ℕ) → marked_in bytes ≡ Some (format, base) → AreLeading format (ticks_most base) (drop FIRST_GROUP bytes) done rest → (other_format : Format) (other_base : ℕ) (groups : List (List Tick)) (other : List ℕ) → HasGroups bytes other_format other_base groups other → length rest ≤ length other
+pub has_furthest : (bytes : List ℕ) (format : Format) (base : ℕ) (done : List (List Tick)) (rest : List ℕ)
+    → marked_in bytes ≡ Some (format, base) → AreLeading format (ticks_most base) (drop FIRST_GROUP bytes) done rest
+    → (other_format : Format) (other_base : ℕ) (groups : List (List Tick)) (other : List ℕ) → HasGroups bytes other_format other_base groups other → length rest ≤ length other
 has_furthest bytes format base done rest mark leads other_format other_base groups other has =
     let same = found_is (other_format, other_base) (format, base) (sym (has_mark bytes other_format other_base groups other has) ∙ mark) in
     let same_format : other_format ≡ format = ap (λ (p : Format × ℕ). p.0) same in
@@ -177,7 +203,8 @@ front_bytes format base groups = OPEN_GATE ∷ (spelled_base format base ++ flat
 length_front : (format : Format) (base : ℕ) (groups : List (List Tick)) → length (front_bytes format base groups) ≡ FIRST_GROUP + length (flat_map group_bytes groups)
 length_front format base groups = omega (arith, length-append (spelled_base format base) (flat_map group_bytes groups), length-number_bytes BASE_BYTES (marked_of format base))
 
-front_then : (format : Format) (base : ℕ) (groups : List (List Tick)) (rest : List ℕ) → front_bytes format base groups ++ rest ≡ OPEN_GATE ∷ (spelled_base format base ++ (flat_map group_bytes groups ++ rest))
+front_then : (format : Format) (base : ℕ) (groups : List (List Tick)) (rest : List ℕ)
+    → front_bytes format base groups ++ rest ≡ OPEN_GATE ∷ (spelled_base format base ++ (flat_map group_bytes groups ++ rest))
 front_then format base groups rest = ap (λ (l : List ℕ). OPEN_GATE ∷ l) (append_assoc (spelled_base format base) (flat_map group_bytes groups) rest)
 
 -- the front is the bytes up to the end of the groups
@@ -185,7 +212,8 @@ front_is : (bytes : List ℕ) (format : Format) (base : ℕ) (groups : List (Lis
 front_is bytes format base groups rest has = has.spelled ∙ sym (front_then format base groups rest)
 
 -- bytes with this front and an end of the groups after it
-open_with : (bytes file : List ℕ) (format : Format) (base : ℕ) (groups : List (List Tick)) (rest behind : List ℕ) → HasGroups bytes format base groups rest → file ≡ front_bytes format base groups ++ behind → EndsGroups behind → HEADER_BYTES ≤ length file → IsOpenSegment file base (joined groups)
+open_with : (bytes file : List ℕ) (format : Format) (base : ℕ) (groups : List (List Tick)) (rest behind : List ℕ)
+    → HasGroups bytes format base groups rest → file ≡ front_bytes format base groups ++ behind → EndsGroups behind → HEADER_BYTES ≤ length file → IsOpenSegment file base (joined groups)
 open_with bytes file format base groups rest behind has is ends long = record {
   format = format;
   groups = groups;
@@ -232,7 +260,8 @@ length_groups format (group ∷ groups) all =
     omega (arith, length_group format group all.0, length_groups format groups all.1, length-append (group_bytes group) (flat_map group_bytes groups), length-append group (joined groups))
 
 -- the front of a segment is shorter than the longest one
-front_short : (bytes : List ℕ) (format : Format) (base : ℕ) (groups : List (List Tick)) (rest : List ℕ) → HasGroups bytes format base groups rest → length (front_bytes format base groups) < SEGMENT_BYTES_MAX
+front_short : (bytes : List ℕ) (format : Format) (base : ℕ) (groups : List (List Tick)) (rest : List ℕ)
+    → HasGroups bytes format base groups rest → length (front_bytes format base groups) < SEGMENT_BYTES_MAX
 front_short bytes format base groups rest has = omega (arith, length_front format base groups, length_groups format groups has.are_groups, has.few)
 
 -- ---- the laws
@@ -289,14 +318,16 @@ module _ (bytes : List ℕ) (groups_end ticks : ℕ) (ended : Bool) (x : IsExten
   ended_reads shut file same =
       let there = shut_gate shut in
       let gate = there.0 in
-      let with_gate : bytes ≡ (front ++ gate ∷ []) ++ there.1 = front_is bytes x.format x.base x.groups x.rest x.leading ∙ ap (λ (l : List ℕ). front ++ l) there.2 ∙ sym (append_assoc front (gate ∷ []) there.1) in
+      let with_gate : bytes ≡ (front ++ gate ∷ []) ++ there.1 = front_is bytes x.format x.base x.groups x.rest x.leading ∙ ap
+      (λ (l : List ℕ). front ++ l) there.2 ∙ sym (append_assoc front (gate ∷ []) there.1) in
       let length_gate : length (front ++ gate ∷ []) ≡ groups_end + 1 = omega (arith, place_is, length-append front (gate ∷ [])) in
       let cut : take (groups_end + 1) file ≡ front ++ gate ∷ [] = same ∙ ap (take (groups_end + 1)) with_gate ∙ take_at (front ++ gate ∷ []) there.1 (groups_end + 1) length_gate in
       let behind = drop (groups_end + 1) file in
       let is : file ≡ front ++ gate ∷ behind = sym (take-append-drop (groups_end + 1) file) ∙ ap (λ (l : List ℕ). l ++ behind) cut ∙ append_assoc front (gate ∷ []) behind in
       let long : HEADER_BYTES ≤ length file = omega (arith, ap length is, length-append front (gate ∷ behind), length_front x.format x.base x.groups) in
       alike_by bytes file (OpenSegment x.base (joined x.groups))
-      (open_with bytes bytes x.format x.base x.groups x.rest (gate ∷ there.1) x.leading (front_is bytes x.format x.base x.groups x.rest x.leading ∙ ap (λ (l : List ℕ). front ++ l) there.2) there.3 x.leading.long)
+      (open_with bytes bytes x.format x.base x.groups x.rest (gate ∷ there.1) x.leading
+      (front_is bytes x.format x.base x.groups x.rest x.leading ∙ ap (λ (l : List ℕ). front ++ l) there.2) there.3 x.leading.long)
       (open_with bytes file x.format x.base x.groups x.rest (gate ∷ behind) x.leading is there.3 long)
 
 pub ended_follows : (bytes file : List ℕ) (groups_end ticks : ℕ) → IsExtent bytes groups_end ticks true → take (groups_end + 1) file ≡ take (groups_end + 1) bytes → ReadsAlike bytes file
@@ -325,7 +356,9 @@ lies_within bytes behind front rest e shorter =
     }
 
 -- groups whose front lies within the first bytes are theirs
-first_groups : (bytes behind : List ℕ) (format : Format) (base : ℕ) (groups : List (List Tick)) (rest : List ℕ) → HasGroups (bytes ++ behind) format base groups rest → HEADER_BYTES ≤ length bytes → (within : LiesWithin bytes behind (front_bytes format base groups) rest) → HasGroups bytes format base groups within.left
+first_groups : (bytes behind : List ℕ) (format : Format) (base : ℕ) (groups : List (List Tick)) (rest : List ℕ)
+    → HasGroups (bytes ++ behind) format base groups rest → HEADER_BYTES ≤ length bytes
+    → (within : LiesWithin bytes behind (front_bytes format base groups) rest) → HasGroups bytes format base groups within.left
 first_groups bytes behind format base groups rest has long within = record {
   are_groups = has.are_groups;
   spelled = within.is ∙ front_then format base groups within.left;
@@ -350,7 +383,8 @@ not_closed_then : (bytes behind : List ℕ) → HEADER_BYTES ≤ length bytes �
 not_closed_then bytes behind long gate (inl short) = omega (arith, long, short, length-append bytes behind)
 not_closed_then bytes behind long gate (inr shut) = shut (get_or_append_left bytes behind 0 0 (omega (arith, long)) ∙ gate)
 
-past_malformed : (bytes : List ℕ) (groups_end ticks : ℕ) (ended : Bool) (x : IsExtent bytes groups_end ticks ended) → HasNoShutGate x.rest → SEGMENT_BYTES_MAX ≤ length bytes → (behind : List ℕ) → IsSegment (bytes ++ behind) MalformedSegment
+past_malformed : (bytes : List ℕ) (groups_end ticks : ℕ) (ended : Bool) (x : IsExtent bytes groups_end ticks ended)
+    → HasNoShutGate x.rest → SEGMENT_BYTES_MAX ≤ length bytes → (behind : List ℕ) → IsSegment (bytes ++ behind) MalformedSegment
 past_malformed bytes groups_end ticks ended x not_shut far behind = (
   not_closed_then bytes behind x.leading.long (ap (λ (l : List ℕ). get_or l 0 0) x.leading.spelled),
   λ base list segment. (
@@ -358,7 +392,8 @@ past_malformed bytes groups_end ticks ended x not_shut far behind = (
       let shorter : length (front_bytes segment.format base segment.groups) < length bytes = omega (arith, far, front_short (bytes ++ behind) segment.format base segment.groups segment.rest has) in
       let within = lies_within bytes behind (front_bytes segment.format base segment.groups) segment.rest (front_is (bytes ++ behind) segment.format base segment.groups segment.rest has) shorter in
       let first = ends_first within.left behind segment.rest within.follows within.some segment.ends in
-      let same = same_rest bytes groups_end ticks ended x segment.format base segment.groups within.left (first_groups bytes behind segment.format base segment.groups segment.rest has x.leading.long within) first.0 in
+      let same = same_rest bytes groups_end ticks ended x segment.format base segment.groups within.left
+      (first_groups bytes behind segment.format base segment.groups segment.rest has x.leading.long within) first.0 in
       not_both x.rest (subst HasShutGate (sym same) first.1) not_shut),
 )
 
@@ -403,7 +438,10 @@ headless_reads bytes behind none long =
 
 -- ---- the extent from its parts
 
-pub extent_by : (bytes : List ℕ) (format : Format) (base ticks : ℕ) (groups : List (List Tick)) (rest : List ℕ) (ended : Bool) → IsBytes bytes → HEADER_BYTES ≤ length bytes → get_or bytes 0 0 ≡ OPEN_GATE → marked_in bytes ≡ Some (format, base) → base ≤ TICK_MAX → AreLeading format (ticks_most base) (drop FIRST_GROUP bytes) groups rest → length (joined groups) ≡ ticks → (ended ≡ true → HasShutGate rest) → (ended ≡ false → HasNoShutGate rest) → IsExtent bytes (length bytes - length rest) ticks ended
+pub extent_by : (bytes : List ℕ) (format : Format) (base ticks : ℕ) (groups : List (List Tick)) (rest : List ℕ) (ended : Bool)
+    → IsBytes bytes → HEADER_BYTES ≤ length bytes → get_or bytes 0 0 ≡ OPEN_GATE → marked_in bytes ≡ Some (format, base)
+    → base ≤ TICK_MAX → AreLeading format (ticks_most base) (drop FIRST_GROUP bytes) groups rest → length (joined groups) ≡ ticks
+    → (ended ≡ true → HasShutGate rest) → (ended ≡ false → HasNoShutGate rest) → IsExtent bytes (length bytes - length rest) ticks ended
 extent_by bytes format base ticks groups rest ended fits long gate mark small leads counted shut not_shut =
     let has = has_groups bytes format base groups rest fits long gate mark small leads in
     record {

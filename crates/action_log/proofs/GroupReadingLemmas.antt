@@ -45,7 +45,8 @@ abbrev pub onto_groups : List (List Tick) → Option (List (List Tick)) → Opti
 onto_groups done read = read >>= (λ others. Some (done ++ others))
 
 -- one more group is read
-groups_next : (format : Format) (n : ℕ) (bytes rest : List ℕ) (group : List Tick) → group_at format bytes ≡ Some (group, rest) → groups_from format (suc n) (OPEN_GATE ∷ bytes) ≡ onto_groups (group ∷ []) (groups_from format n rest)
+groups_next : (format : Format) (n : ℕ) (bytes rest : List ℕ) (group : List Tick) → group_at format bytes ≡ Some (group, rest)
+    → groups_from format (suc n) (OPEN_GATE ∷ bytes) ≡ onto_groups (group ∷ []) (groups_from format n rest)
 unfolding groups_at
 groups_next format n bytes rest group e =
     ap (λ o. (o >>= (λ group. groups_at format n group.1 >>= onto group.0)) >>= (λ found. Some found.0)) e ∙ go (groups_at format n rest)
@@ -64,7 +65,8 @@ groups_end : (format : Format) (n : ℕ) (bytes : List ℕ) → EndsGroups bytes
 unfolding groups_at
 groups_end format zero bytes ends = refl
 groups_end format (suc n) [] ends = refl
-groups_end format (suc n) (gate ∷ bytes) ends = ap (λ o. o >>= (λ found. Some found.0)) (cond-false (eqb gate OPEN_GATE) (more_groups format n bytes) (no_more (gate ∷ bytes)) (ne_eqb gate OPEN_GATE ends))
+groups_end format (suc n) (gate ∷ bytes) ends =
+    ap (λ o. o >>= (λ found. Some found.0)) (cond-false (eqb gate OPEN_GATE) (more_groups format n bytes) (no_more (gate ∷ bytes)) (ne_eqb gate OPEN_GATE ends))
 
 -- ---- the part that is read so far
 
@@ -88,7 +90,9 @@ groups_onto : (done more : List (List Tick)) (o : Option (List (List Tick))) →
 groups_onto done more None = refl
 groups_onto done more (Some others) = ap (λ l. Some l) (sym (append_assoc done more others))
 
-group_read : (format : Format) (bytes : List ℕ) (done : List (List Tick)) (rest behind : List ℕ) (group : List Tick) (next : List ℕ) (r : IsReadTo format bytes done rest) → length next < length rest → rest ≡ OPEN_GATE ∷ behind → group_at format behind ≡ Some (group, next) → IsBytes next → IsReadTo format bytes (done ++ group ∷ []) next
+group_read : (format : Format) (bytes : List ℕ) (done : List (List Tick)) (rest behind : List ℕ) (group : List Tick)
+    (next : List ℕ) (r : IsReadTo format bytes done rest) → length next < length rest → rest ≡ OPEN_GATE ∷ behind
+    → group_at format behind ≡ Some (group, next) → IsBytes next → IsReadTo format bytes (done ++ group ∷ []) next
 group_read format bytes done rest behind group next r fewer gate e fits =
     let go : (m : ℕ) → r.most ≡ m → IsReadTo format bytes (done ++ group ∷ []) next =
     λ m. elim m as (λ m. r.most ≡ m → IsReadTo format bytes (done ++ group ∷ []) next) [
@@ -97,18 +101,23 @@ group_read format bytes done rest behind group next r fewer gate e fits =
         most = m;
         enough = omega (arith, is, r.enough, fewer);
         are_bytes = fits;
-        all = r.all ∙ ap (λ (k : ℕ). onto_groups done (groups_from format k rest)) is ∙ ap (λ (l : List ℕ). onto_groups done (groups_from format (suc m) l)) gate ∙ ap (onto_groups done) (groups_next format m behind next group e) ∙ groups_onto done (group ∷ []) (groups_from format m next);
+        all =
+            r.all ∙ ap (λ (k : ℕ). onto_groups done (groups_from format k rest)) is ∙ ap
+            (λ (l : List ℕ). onto_groups done (groups_from format (suc m) l)) gate ∙ ap (onto_groups done)
+            (groups_next format m behind next group e) ∙ groups_onto done (group ∷ []) (groups_from format m next);
       }
     ] in
     go r.most refl
 
 -- the bytes where a group should be are no group
-pub read_to_bad : (format : Format) (bytes : List ℕ) (done : List (List Tick)) (rest behind : List ℕ) → IsReadTo format bytes done rest → rest ≡ OPEN_GATE ∷ behind → group_at format behind ≡ None → groups_of format bytes ≡ None
+pub read_to_bad : (format : Format) (bytes : List ℕ) (done : List (List Tick)) (rest behind : List ℕ)
+    → IsReadTo format bytes done rest → rest ≡ OPEN_GATE ∷ behind → group_at format behind ≡ None → groups_of format bytes ≡ None
 read_to_bad format bytes done rest behind r gate e =
     let go : (m : ℕ) → r.most ≡ m → groups_of format bytes ≡ None =
     λ m. elim m as (λ m. r.most ≡ m → groups_of format bytes ≡ None) [
       | zero ↦ λ is. absurd (omega (arith, is, r.enough, ap length gate))
-      | suc m ↦ λ is. r.all ∙ ap (λ (k : ℕ). onto_groups done (groups_from format k rest)) is ∙ ap (λ (l : List ℕ). onto_groups done (groups_from format (suc m) l)) gate ∙ ap (onto_groups done) (groups_bad format m behind e)
+      | suc m ↦ λ is. r.all ∙ ap (λ (k : ℕ). onto_groups done (groups_from format k rest)) is ∙ ap
+          (λ (l : List ℕ). onto_groups done (groups_from format (suc m) l)) gate ∙ ap (onto_groups done) (groups_bad format m behind e)
     ] in
     go r.most refl
 
@@ -117,10 +126,17 @@ pub read_to_end : (format : Format) (bytes : List ℕ) (done : List (List Tick))
 read_to_end format bytes done rest r ends = r.all ∙ ap (onto_groups done) (groups_end format r.most rest ends) ∙ ap (λ l. Some l) (append-nil done)
 
 -- there are no fewer ticks than those done
-pub read_to_many : (format : Format) (bytes : List ℕ) (done : List (List Tick)) (rest : List ℕ) (groups : List (List Tick)) → IsReadTo format bytes done rest → groups_of format bytes ≡ Some groups → length (joined done) ≤ length (joined groups)
+pub read_to_many : (format : Format) (bytes : List ℕ) (done : List (List Tick)) (rest : List ℕ) (groups : List (List Tick))
+    → IsReadTo format bytes done rest → groups_of format bytes ≡ Some groups → length (joined done) ≤ length (joined groups)
 read_to_many format bytes done rest groups r e =
     let parts = bind_some (groups_from format r.most rest) (λ others. Some (done ++ others)) groups (sym r.all ∙ e) in
-    omega (arith, ap (λ (l : List (List Tick)). length (joined l)) (found_is (done ++ parts.0) groups parts.2), ap length (flat_map-append (λ (group : List Tick). group) done parts.0), length-append (joined done) (joined parts.0))
+    omega (
+      arith,
+      ap (λ (l : List (List Tick)). length (joined l)) (found_is (done ++ parts.0) groups parts.2),
+      ap length
+          (flat_map-append (λ (group : List Tick). group) done parts.0),
+      length-append (joined done) (joined parts.0),
+    )
 
 -- some of the ticks are read from bytes, with their number of actions, and these bytes are left
 pub record IsGroupCounted (format : Format) (many counter actions : ℕ) (bytes rest : List ℕ) : Type 0 where
@@ -160,7 +176,8 @@ pub ticks_by : (format : Format) (bytes : List ℕ) (read : Option (List (List T
 ticks_by format bytes read e = ap (λ (o : Option (List (List Tick))). o >>= (λ groups. Some (joined groups))) e
 
 -- ticks that are read are those of some groups
-pub groups_by : (format : Format) (bytes : List ℕ) (ticks : List Tick) → ticks_of format bytes ≡ Some ticks → (groups : List (List Tick)) × (groups_of format bytes ≡ Some groups) × (joined groups ≡ ticks)
+pub groups_by : (format : Format) (bytes : List ℕ) (ticks : List Tick) → ticks_of format bytes ≡ Some ticks
+    → (groups : List (List Tick)) × (groups_of format bytes ≡ Some groups) × (joined groups ≡ ticks)
 groups_by format bytes ticks e =
     let all = bind_some (groups_of format bytes) (λ groups. Some (joined groups)) ticks e in
     (all.0, all.1, found_is (joined all.0) ticks all.2)
@@ -168,11 +185,17 @@ groups_by format bytes ticks e =
 groups_length : (groups : List (List Tick)) (rest : List ℕ) → length groups ≤ length (flat_map group_bytes groups ++ rest)
 groups_length [] rest = omega arith
 groups_length (g ∷ groups) rest =
-    omega (arith, groups_length groups rest, ap length (append_assoc (group_bytes g) (flat_map group_bytes groups) rest), length-append (counted_bytes tick_bytes g) (flat_map group_bytes groups ++ rest))
+    omega (
+      arith,
+      groups_length groups rest,
+      ap length (append_assoc (group_bytes g) (flat_map group_bytes groups) rest),
+      length-append (counted_bytes tick_bytes g) (flat_map group_bytes groups ++ rest),
+    )
 
 -- ---- groups, taken and read again
 
-pub groups_take : (format : Format) (n : ℕ) (bytes : List ℕ) (gs : List (List Tick)) (rest : List ℕ) → IsBytes bytes → length bytes ≤ n → groups_at format n bytes ≡ Some (gs, rest) → TakesGroups format bytes gs rest
+pub groups_take : (format : Format) (n : ℕ) (bytes : List ℕ) (gs : List (List Tick)) (rest : List ℕ) → IsBytes bytes
+    → length bytes ≤ n → groups_at format n bytes ≡ Some (gs, rest) → TakesGroups format bytes gs rest
 unfolding groups_at
 groups_take format zero bytes gs rest fits len e =
     subst (λ (p : List (List Tick) × List ℕ). TakesGroups format bytes p.0 p.1) (found_is ([], bytes) (gs, rest) e) (record { parts = refl; is = tt; ends = no_bytes bytes len })
@@ -190,20 +213,25 @@ groups_take format (suc n) (gate ∷ bytes) gs rest fits len e =
           let c = groups_take format n p.0.1 q.0.0 q.0.1 a.are_bytes shorter q.1 in
           subst (λ (p : List (List Tick) × List ℕ). TakesGroups format (gate ∷ bytes) p.0 p.1) (found_is (p.0.0 ∷ q.0.0, q.0.1) (gs, rest) q.2)
           (record {
-            parts = ap (λ m. m ∷ bytes) one ∙ ap (λ l. OPEN_GATE ∷ l) (a.parts ∙ ap (λ l. counted_bytes tick_bytes p.0.0 ++ l) c.parts) ∙ sym (append_assoc (group_bytes p.0.0) (flat_map group_bytes q.0.0) q.0.1);
+            parts =
+                ap (λ m. m ∷ bytes) one ∙ ap (λ l. OPEN_GATE ∷ l)
+                (a.parts ∙ ap (λ l. counted_bytes tick_bytes p.0.0 ++ l) c.parts) ∙ sym (append_assoc (group_bytes p.0.0) (flat_map group_bytes q.0.0) q.0.1);
             is = (a.is, c.is);
             ends = c.ends;
           }))
-      | false ↦ λ shut f. subst (λ (p : List (List Tick) × List ℕ). TakesGroups format (gate ∷ bytes) p.0 p.1) (found_is ([], gate ∷ bytes) (gs, rest) f) (record { parts = refl; is = tt; ends = eqb-false gate OPEN_GATE shut })
+      | false ↦ λ shut f. subst (λ (p : List (List Tick) × List ℕ). TakesGroups format (gate ∷ bytes) p.0 p.1)
+          (found_is ([], gate ∷ bytes) (gs, rest) f) (record { parts = refl; is = tt; ends = eqb-false gate OPEN_GATE shut })
     ] in
     go (eqb gate OPEN_GATE) refl e
 
-groups_again : (format : Format) (n : ℕ) (gs : List (List Tick)) (rest : List ℕ) → AllByRecursion (IsGroup format) gs → EndsGroups rest → length gs ≤ n → groups_at format n (flat_map group_bytes gs ++ rest) ≡ Some (gs, rest)
+groups_again : (format : Format) (n : ℕ) (gs : List (List Tick)) (rest : List ℕ) → AllByRecursion (IsGroup format) gs
+    → EndsGroups rest → length gs ≤ n → groups_at format n (flat_map group_bytes gs ++ rest) ≡ Some (gs, rest)
 unfolding groups_at
 groups_again format zero [] rest f ends len = refl
 groups_again format zero (g ∷ gs) rest f ends len = absurd (omega arith)
 groups_again format (suc n) [] [] f ends len = refl
-groups_again format (suc n) [] (b ∷ rest) f ends len = cond-false (eqb b OPEN_GATE) (group_at format rest >>= (λ group. groups_at format n group.1 >>= (λ others. Some (group.0 ∷ others.0, others.1)))) (Some ([], b ∷ rest)) (ne_eqb b OPEN_GATE ends)
+groups_again format (suc n) [] (b ∷ rest) f ends len =
+    cond-false (eqb b OPEN_GATE) (group_at format rest >>= (λ group. groups_at format n group.1 >>= (λ others. Some (group.0 ∷ others.0, others.1)))) (Some ([], b ∷ rest)) (ne_eqb b OPEN_GATE ends)
 groups_again format (suc n) (g ∷ gs) rest f ends len =
     let fewer : length gs ≤ n = omega arith in
     ap (groups_at format (suc n)) (append_assoc (group_bytes g) (flat_map group_bytes gs) rest)
@@ -215,7 +243,9 @@ unfolding groups_of
 all_again format gs rest f ends = ap (λ o. o >>= (λ found. Some found.0)) (groups_again format (length (flat_map group_bytes gs ++ rest)) gs rest f ends (groups_length gs rest))
 
 -- one more group is read, and the bytes left are fewer
-pub read_to_next : (format : Format) (bytes : List ℕ) (done : List (List Tick)) (rest behind : List ℕ) (group : List Tick) (next : List ℕ) → IsReadTo format bytes done rest → rest ≡ OPEN_GATE ∷ behind → group_at format behind ≡ Some (group, next) → IsReadTo format bytes (done ++ group ∷ []) next × (length next < length rest)
+pub read_to_next : (format : Format) (bytes : List ℕ) (done : List (List Tick)) (rest behind : List ℕ) (group : List Tick)
+    (next : List ℕ) → IsReadTo format bytes done rest → rest ≡ OPEN_GATE ∷ behind → group_at format behind ≡ Some (group, next)
+    → IsReadTo format bytes (done ++ group ∷ []) next × (length next < length rest)
 read_to_next format bytes done rest behind group next r gate e =
     let at = subst IsBytes gate r.are_bytes in
     let taken = (group_reads format).takes behind group next (IsBytes-rest OPEN_GATE behind at) e in

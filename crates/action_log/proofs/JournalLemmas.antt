@@ -89,7 +89,8 @@ module _ (old new : Progress) (queue left : List Record) (a b new_a new_b : List
   -- ---- in the start
 
   -- the start continues
-  still_starting : (start : Start) (n m : ℕ) → new.starting ≡ old.starting → new.next_base ≡ old.next_base → 0 < m → (new.down ≡ false → m ≡ rest_of new) → (s : StandsInStart old a b leaves_a leaves_b start n)
+  still_starting : (start : Start) (n m : ℕ) → new.starting ≡ old.starting → new.next_base ≡ old.next_base → 0 < m
+      → (new.down ≡ false → m ≡ rest_of new) → (s : StandsInStart old a b leaves_a leaves_b start n)
       → Holds new s.written new_a new_b → Endures new s.written new_a new_b new_leaves_a new_leaves_b → StandsInStart new new_a new_b new_leaves_a new_leaves_b (record start { begun = true }) m
   still_starting start n m same next_base some is s holds endures = record {
     written = s.written;
@@ -105,7 +106,8 @@ module _ (old new : Progress) (queue left : List Record) (a b new_a new_b : List
     only_b = λ first. absurd cc;
   }
 
-  in_start : (o : Outcome) (start : Start) (n : ℕ) → Moved o old new queue left → HoldsNext o old new queue a b new_a new_b → LastsNext o old new queue a b new_a new_b leaves_a leaves_b new_leaves_a new_leaves_b
+  in_start : (o : Outcome) (start : Start) (n : ℕ) → Moved o old new queue left → HoldsNext o old new queue a b new_a new_b
+      → LastsNext o old new queue a b new_a new_b leaves_a leaves_b new_leaves_a new_leaves_b
       → StandsInStart old a b leaves_a leaves_b start n → Next o (InStart start) n
   in_start outcome.Idle start n moved holds lasts s = absurd (never_ready old moved.1 s.in_work s.holds.in_order)
   in_start (outcome.TookGroup failed) start n moved holds lasts s = absurd (never_ready old moved.1 s.in_work s.holds.in_order)
@@ -117,19 +119,22 @@ module _ (old new : Progress) (queue left : List Record) (a b new_a new_b : List
       let is = s.left_is moved.0 in
       let next_rest = ap (λ (k : Progress). rest_of k) moved.2 in (
         record { journal = InStart (record start { begun = true }); left = n - 1 },
-        still_starting start n (n - 1) (ap (λ (k : Progress). k.starting) moved.2) (ap (λ (k : Progress). k.next_base) moved.2) (omega (arith, rest, some, is)) (λ up. omega (arith, rest, is, next_rest)) s (holds s.written s.holds) (lasts s.written s.holds s.endures),
+        still_starting start n (n - 1) (ap (λ (k : Progress). k.starting) moved.2) (ap (λ (k : Progress). k.next_base) moved.2)
+            (omega (arith, rest, some, is)) (λ up. omega (arith, rest, is, next_rest)) s (holds s.written s.holds) (lasts s.written s.holds s.endures),
         (inl (omega (arith, rest, some, is), refl), moved.3),
       )
   in_start outcome.Failed start n moved holds lasts s =
       let down : new.down ≡ true = ap (λ (k : Progress). k.down) moved.2 in (
         record { journal = InStart (record start { begun = true }); left = n },
-        still_starting start n n (ap (λ (k : Progress). k.starting) moved.2) (ap (λ (k : Progress). k.next_base) moved.2) s.some_left (λ up. absurd cc) s (holds s.written s.holds) (lasts s.written s.holds s.endures),
+        still_starting start n n (ap (λ (k : Progress). k.starting) moved.2) (ap (λ (k : Progress). k.next_base) moved.2)
+            s.some_left (λ up. absurd cc) s (holds s.written s.holds) (lasts s.written s.holds s.endures),
         ((s.some_left, refl), moved.3),
       )
   in_start outcome.Down start n moved holds lasts s =
       let down : new.down ≡ true = ap (λ (k : Progress). k.down) moved.1 ∙ moved.0 in (
         record { journal = InStart (record start { begun = true }); left = n },
-        still_starting start n n (ap (λ (k : Progress). k.starting) moved.1) (ap (λ (k : Progress). k.next_base) moved.1) s.some_left (λ up. absurd cc) s (holds s.written s.holds) (lasts s.written s.holds s.endures),
+        still_starting start n n (ap (λ (k : Progress). k.starting) moved.1) (ap (λ (k : Progress). k.next_base) moved.1)
+            s.some_left (λ up. absurd cc) s (holds s.written s.holds) (lasts s.written s.holds s.endures),
         ((s.some_left, refl), moved.2),
       )
   in_start outcome.Switched start n moved holds lasts s =
@@ -146,7 +151,9 @@ module _ (old new : Progress) (queue left : List Record) (a b new_a new_b : List
             holds = holds s.written s.holds;
             endures = lasts s.written s.holds s.endures;
             before = shut_is_closed file shut;
-            is = ap (λ (t : ℕ). started t) s.tick ∙ ap (λ (x : Slot). record (started old.next_base) { slot = other_slot x }) (sym is_b) ∙ ap (λ (k : Progress). logs_of k next ClosedSegment) (sym moved.2);
+            is =
+                ap (λ (t : ℕ). started t) s.tick ∙ ap (λ (x : Slot). record (started old.next_base) { slot = other_slot x })
+                (sym is_b) ∙ ap (λ (k : Progress). logs_of k next ClosedSegment) (sym moved.2);
           },
           refl,
         ),
@@ -156,7 +163,8 @@ module _ (old new : Progress) (queue left : List Record) (a b new_a new_b : List
   -- ---- after the start
 
   -- the place of the log that the keeper represents after a step
-  after_start : (logs : Logs) (n : ℕ) (o : Outcome) (written : Written) (before : Segment) → n ≡ 0 → new.starting ≡ false → Holds new written new_a new_b → Endures new written new_a new_b new_leaves_a new_leaves_b → IsSegment written.before before
+  after_start : (logs : Logs) (n : ℕ) (o : Outcome) (written : Written) (before : Segment) → n ≡ 0 → new.starting ≡ false
+      → Holds new written new_a new_b → Endures new written new_a new_b new_leaves_a new_leaves_b → IsSegment written.before before
       → LogsStep logs queue (answer_by o) (logs_of new written before) left → Next o (Writing logs) n
   after_start logs n o written before none over holds endures was step = (
     record { journal = Writing (logs_of new written before); left = n },
@@ -204,7 +212,8 @@ module _ (old new : Progress) (queue left : List Record) (a b new_a new_b : List
           is = ap (λ (k : Progress). logs_of k s.written logs.before) moved.4 ∙ ap (λ (x : Option ℕ). record now { switch = x }) (begun_switch old.other_shut moved.0);
         }
 
-    writing : (o : Outcome) → Moved o old new queue left → HoldsNext o old new queue a b new_a new_b → LastsNext o old new queue a b new_a new_b leaves_a leaves_b new_leaves_a new_leaves_b → Next o (Writing logs) n
+    writing : (o : Outcome) → Moved o old new queue left → HoldsNext o old new queue a b new_a new_b
+        → LastsNext o old new queue a b new_a new_b leaves_a leaves_b new_leaves_a new_leaves_b → Next o (Writing logs) n
     writing outcome.Idle moved holds lasts =
         let next = logs_of new s.written logs.before in
         let same : next ≡ now = ap (λ (k : Progress). logs_of k s.written logs.before) moved.3 in
@@ -219,10 +228,12 @@ module _ (old new : Progress) (queue left : List Record) (a b new_a new_b : List
         after_start logs n (outcome.TookGroup false) next logs.before none (ap (λ (k : Progress). k.starting) moved.3 ∙ s.over) (holds s.written s.holds) (lasts s.written s.holds s.endures) s.before
         (stepped_as answer.Working (logs_of new next logs.before) (inl (inr (inl (took false moved)))))
     writing (outcome.TookSwitch true) moved holds lasts =
-        after_start logs n (outcome.TookSwitch true) s.written logs.before none (ap (λ (k : Progress). k.starting) moved.4 ∙ s.over) (holds s.written s.holds) (lasts s.written s.holds s.endures) s.before
+        after_start logs n (outcome.TookSwitch true) s.written logs.before none
+        (ap (λ (k : Progress). k.starting) moved.4 ∙ s.over) (holds s.written s.holds) (lasts s.written s.holds s.endures) s.before
         (stepped_as answer.Down (logs_of new s.written logs.before) (inr (inr (switched true moved))))
     writing (outcome.TookSwitch false) moved holds lasts =
-        after_start logs n (outcome.TookSwitch false) s.written logs.before none (ap (λ (k : Progress). k.starting) moved.4 ∙ s.over) (holds s.written s.holds) (lasts s.written s.holds s.endures) s.before
+        after_start logs n (outcome.TookSwitch false) s.written logs.before none
+        (ap (λ (k : Progress). k.starting) moved.4 ∙ s.over) (holds s.written s.holds) (lasts s.written s.holds s.endures) s.before
         (stepped_as answer.Working (logs_of new s.written logs.before) (inl (inr (inr (switched false moved)))))
     writing outcome.Working moved holds lasts =
         after_start logs n outcome.Working s.written logs.before none (ap (λ (k : Progress). k.starting) moved.2 ∙ s.over) (holds s.written s.holds) (lasts s.written s.holds s.endures) s.before
@@ -238,7 +249,8 @@ module _ (old new : Progress) (queue left : List Record) (a b new_a new_b : List
         let sum = length-append (joined s.written.groups) s.written.pending in
         let none_pending = pending_at OpeningSync old s.written current (of_slot old.current b a) moved.1 fits in
         let groups = subst (λ (x : Bool). CurrentFits OpeningSync x old.down old.base s.written current) s.over (current_at OpeningSync old s.written current (of_slot old.current b a) moved.1 fits) in
-        let reads = closed_reads old.base s.written.groups current groups.0 fits.groups (omega (arith, s.holds.in_order.few, fits.count, sum)) (omega (arith, s.holds.in_order.numbered, fits.count, sum)) groups.1 in
+        let reads = closed_reads old.base s.written.groups current groups.0 fits.groups
+        (omega (arith, s.holds.in_order.few, fits.count, sum)) (omega (arith, s.holds.in_order.numbered, fits.count, sum)) groups.1 in
         let next = renewed s.written current in
         let before = OpenSegment old.base (joined s.written.groups) in
         after_start logs n outcome.Switched next before none (ap (λ (k : Progress). k.starting) moved.2) (holds s.written s.holds) (lasts s.written s.holds s.endures) reads
@@ -266,12 +278,14 @@ module _ (old new : Progress) (queue left : List Record) (a b new_a new_b : List
           queue_is = moved.4;
         }))
 
-  step_in : (o : Outcome) (journal : Journal) (n : ℕ) → Moved o old new queue left → HoldsNext o old new queue a b new_a new_b → LastsNext o old new queue a b new_a new_b leaves_a leaves_b new_leaves_a new_leaves_b
+  step_in : (o : Outcome) (journal : Journal) (n : ℕ) → Moved o old new queue left → HoldsNext o old new queue a b new_a new_b
+      → LastsNext o old new queue a b new_a new_b leaves_a leaves_b new_leaves_a new_leaves_b
       → StandsBy old a b leaves_a leaves_b journal n → Next o journal n
   step_in o (InStart start) n moved holds lasts stands = in_start o start n moved holds lasts stands
   step_in o (Writing logs) n moved holds lasts stands = writing logs n stands.1 stands.0 o moved holds lasts
 
   -- every step is one of the log's
-  pub journal_step : (o : Outcome) (place : LogPlace) → Moved o old new queue left → HoldsNext o old new queue a b new_a new_b → LastsNext o old new queue a b new_a new_b leaves_a leaves_b new_leaves_a new_leaves_b
+  pub journal_step : (o : Outcome) (place : LogPlace) → Moved o old new queue left → HoldsNext o old new queue a b new_a new_b
+      → LastsNext o old new queue a b new_a new_b leaves_a leaves_b new_leaves_a new_leaves_b
       → Stands old a b leaves_a leaves_b place → Next o place.journal place.left
   journal_step o place moved holds lasts stands = step_in o place.journal place.left moved holds lasts stands

@@ -116,12 +116,14 @@ queue_end_left (suc n) base count (records.Tick tick ∷ queue) =
     ap (λ (m : ℕ). queue_end base m (drop (length (group_of n queue)) queue)) e ∙ queue_end_left n base (count + 1) queue
 
 -- a record may be added that fits after the queue
-pub queue_grows : (base count : ℕ) (queue : List Record) (added : Record) → QueueFits base count queue → QueueFits (queue_end base count queue).base (queue_end base count queue).count (added ∷ []) → QueueFits base count (queue ++ added ∷ [])
+pub queue_grows : (base count : ℕ) (queue : List Record) (added : Record) → QueueFits base count queue
+    → QueueFits (queue_end base count queue).base (queue_end base count queue).count (added ∷ []) → QueueFits base count (queue ++ added ∷ [])
 queue_grows base count [] added fits at_end = at_end
 queue_grows base count (records.Tick tick ∷ queue) added fits at_end = (fits.0, fits.1, queue_grows base (count + 1) queue added fits.2 at_end)
 queue_grows base count (records.Switch tick ∷ queue) added fits at_end = (fits.0, fits.1, queue_grows tick 0 queue added fits.2 at_end)
 
-pub queue_end_grows : (base count : ℕ) (queue : List Record) (added : Record) → queue_end base count (queue ++ added ∷ []) ≡ queue_end (queue_end base count queue).base (queue_end base count queue).count (added ∷ [])
+pub queue_end_grows : (base count : ℕ) (queue : List Record) (added : Record)
+    → queue_end base count (queue ++ added ∷ []) ≡ queue_end (queue_end base count queue).base (queue_end base count queue).count (added ∷ [])
 queue_end_grows base count [] added = refl
 queue_end_grows base count (records.Tick tick ∷ queue) added = queue_end_grows base (count + 1) queue added
 queue_end_grows base count (records.Switch tick ∷ queue) added = queue_end_grows tick 0 queue added
@@ -129,7 +131,8 @@ queue_end_grows base count (records.Switch tick ∷ queue) added = queue_end_gro
 -- after a keeper's job
 pub follows_more : (p : Phase) (base count next_base : ℕ) (queue : List Record) (added : Record) → QueueFollowsIn p base count next_base queue
     → QueueFits (end_in p base count next_base queue).base (end_in p base count next_base queue).count (added ∷ [])
-    → QueueFollowsIn p base count next_base (queue ++ added ∷ []) × (end_in p base count next_base (queue ++ added ∷ []) ≡ queue_end (end_in p base count next_base queue).base (end_in p base count next_base queue).count (added ∷ []))
+    → QueueFollowsIn p base count next_base (queue ++ added ∷ [])
+    × (end_in p base count next_base (queue ++ added ∷ []) ≡ queue_end (end_in p base count next_base queue).base (end_in p base count next_base queue).count (added ∷ []))
 follows_more Retiring base count next_base queue added fits at_end = (queue_grows next_base 0 queue added fits at_end, queue_end_grows next_base 0 queue added)
 follows_more RetiringSync base count next_base queue added fits at_end = (queue_grows next_base 0 queue added fits at_end, queue_end_grows next_base 0 queue added)
 follows_more Ready base count next_base queue added fits at_end = (queue_grows base count queue added fits at_end, queue_end_grows base count queue added)
@@ -162,8 +165,10 @@ work_push (x ∷ queue) zero first lt is = let e : x ≡ first = is in ap (λ (r
 work_push (records.Tick tick ∷ queue) (suc i) first lt is = let rest = work_push queue i first (omega (arith, lt)) is in omega (arith, rest)
 work_push (records.Switch tick ∷ queue) (suc i) first lt is = let rest = work_push queue i first (omega (arith, lt)) is in omega (arith, rest)
 
-pub queue_work_push : (queue : List Record) (i : ℕ) (first : Record) → i < length queue → get_or queue i first ≡ first → queue_work (take (i + 1) queue) ≡ queue_work (take i queue) + queue_work (first ∷ [])
-queue_work_push queue i first lt is = let e : suc i ≡ i + 1 = omega arith in subst (λ (m : ℕ). queue_work (take m queue) ≡ queue_work (take i queue) + queue_work (first ∷ [])) e (work_push queue i first lt is)
+pub queue_work_push : (queue : List Record) (i : ℕ) (first : Record) → i < length queue → get_or queue i first ≡ first
+    → queue_work (take (i + 1) queue) ≡ queue_work (take i queue) + queue_work (first ∷ [])
+queue_work_push queue i first lt is =
+    let e : suc i ≡ i + 1 = omega arith in subst (λ (m : ℕ). queue_work (take m queue) ≡ queue_work (take i queue) + queue_work (first ∷ [])) e (work_push queue i first lt is)
 
 -- ---- the call for the record in front
 

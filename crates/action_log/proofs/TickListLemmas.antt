@@ -82,7 +82,8 @@ pub record IsPlaceIn (ticks : List Tick) (actions : List Action) (i start end : 
   pub last : end ≤ length actions
   pub is : take (end - start) (drop start actions) ≡ get_or ticks i []
 
-pub place_in : (ticks : List Tick) (actions : List Action) (ends : List ℕ) (i start end : ℕ) → IsListOf ticks actions ends → i < length ends → start ≡ get_or (0 ∷ ends) i 0 → end ≡ get_or ends i 0 → IsPlaceIn ticks actions i start end
+pub place_in : (ticks : List Tick) (actions : List Action) (ends : List ℕ) (i start end : ℕ) → IsListOf ticks actions ends
+    → i < length ends → start ≡ get_or (0 ∷ ends) i 0 → end ≡ get_or ends i 0 → IsPlaceIn ticks actions i start end
 place_in ticks actions ends i start end list below starts stops =
     let many = as_many ticks actions ends list in
     let found = place 0 ticks i (omega (arith, below, many)) in

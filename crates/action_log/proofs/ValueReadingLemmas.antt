@@ -1,5 +1,7 @@
 -- The reading of a value, of several values, or of a count and as many values, for any kind of value.
-use Rattle.std.proofs.Common.{◌≡◌, ℕ, zero, suc, ◌+◌, ◌-◌, ◌<◌, ◌≤◌, ◌⊎◌, inl, inr, Bool, true, false, cond, not, ◌||◌, ltb, List, [], ◌∷◌, ◌++◌, length, take, drop, Option, Some, None, refl, sym, ap, subst, ◌∙◌, append_assoc, arith}
+use Rattle.std.proofs.Common.{◌≡◌, ℕ, zero, suc, ◌+◌, ◌-◌, ◌<◌, ◌≤◌, ◌⊎◌, inl, inr, Bool, true, false, cond, not, ◌||◌, ltb, List}
+use Rattle.std.proofs.Common.{[], ◌∷◌, ◌++◌, length, take, drop, Option, Some, None, refl, sym, ap, subst, ◌∙◌, append_assoc}
+use Rattle.std.proofs.Common.{arith}
 use Rattle.std.specs.List.{flat_map, AllByRecursion}
 use Rattle.std.proofs.lemmas.Bool.{le-ltb, lt-ltb, cond-true, cond-false}
 use Rattle.std.proofs.lemmas.List.{length-append, length-drop, get_or-drop, append-nil, take_all}
@@ -85,10 +87,13 @@ apart one Is spelling r x y more other f g e =
     let pair = found_is (x, more) (y, other) (sym (r.again x more f) ∙ ap one e ∙ r.again y other g) in
     (ap (λ (p : _ × List ℕ). p.0) pair, ap (λ (p : _ × List ℕ). p.1) pair)
 
-pub several_takes : {X : Type 0} (one : Reader X) (Is : X → Type 0) (spelling : X → List ℕ) → Reads one Is spelling → (n : ℕ) (bytes : List ℕ) (xs : List X) (rest : List ℕ) → IsBytes bytes → several_at one n bytes ≡ Some (xs, rest) → Takes (λ xs. AllByRecursion Is xs × (length xs ≡ n)) (flat_map spelling) bytes xs rest
+pub several_takes : {X : Type 0} (one : Reader X) (Is : X → Type 0) (spelling : X → List ℕ) → Reads one Is spelling
+    → (n : ℕ) (bytes : List ℕ) (xs : List X) (rest : List ℕ) → IsBytes bytes → several_at one n bytes ≡ Some (xs, rest)
+    → Takes (λ xs. AllByRecursion Is xs × (length xs ≡ n)) (flat_map spelling) bytes xs rest
 unfolding several_at
 several_takes {X = X} one Is spelling r zero bytes xs rest fits e =
-    subst (λ (p : List X × List ℕ). Takes (λ xs. AllByRecursion Is xs × (length xs ≡ 0)) (flat_map spelling) bytes p.0 p.1) (found_is ([], bytes) (xs, rest) e) (record { parts = refl; are_bytes = fits; is = (tt, refl) })
+    subst (λ (p : List X × List ℕ). Takes (λ xs. AllByRecursion Is xs × (length xs ≡ 0)) (flat_map spelling) bytes p.0 p.1)
+    (found_is ([], bytes) (xs, rest) e) (record { parts = refl; are_bytes = fits; is = (tt, refl) })
 several_takes {X = X} one Is spelling r (suc n) bytes xs rest fits e =
     let p = bind_some (one bytes) (λ first. several_at one n first.1 >>= (λ others. Some (first.0 ∷ others.0, others.1))) (xs, rest) e in
     let a = r.takes bytes p.0.0 p.0.1 fits p.1 in
@@ -101,7 +106,8 @@ several_takes {X = X} one Is spelling r (suc n) bytes xs rest fits e =
       is = ((a.is, b.is.0), ap suc b.is.1);
     })
 
-pub several_again : {X : Type 0} (one : Reader X) (Is : X → Type 0) (spelling : X → List ℕ) → Reads one Is spelling → (xs : List X) (rest : List ℕ) → AllByRecursion Is xs → several_at one (length xs) (flat_map spelling xs ++ rest) ≡ Some (xs, rest)
+pub several_again : {X : Type 0} (one : Reader X) (Is : X → Type 0) (spelling : X → List ℕ) → Reads one Is spelling
+    → (xs : List X) (rest : List ℕ) → AllByRecursion Is xs → several_at one (length xs) (flat_map spelling xs ++ rest) ≡ Some (xs, rest)
 unfolding several_at
 several_again one Is spelling r [] rest f = refl
 several_again one Is spelling r (x ∷ xs) rest f =
@@ -114,12 +120,14 @@ abbrev pub onto_all : {X : Type 0} → List X → Option (List X × List ℕ) �
 onto_all done read = read >>= (λ others. Some (done ++ others.0, others.1))
 
 -- one more value is read
-pub several_next : {X : Type 0} (one : Reader X) (done : List X) (m n : ℕ) (bytes rest : List ℕ) (x : X) → m ≡ n + 1 → one bytes ≡ Some (x, rest) → onto_all done (several_at one m bytes) ≡ onto_all (done ++ x ∷ []) (several_at one n rest)
+pub several_next : {X : Type 0} (one : Reader X) (done : List X) (m n : ℕ) (bytes rest : List ℕ) (x : X) → m ≡ n + 1
+    → one bytes ≡ Some (x, rest) → onto_all done (several_at one m bytes) ≡ onto_all (done ++ x ∷ []) (several_at one n rest)
 unfolding several_at
 several_next one done zero n bytes rest x more e = absurd (omega (arith, more))
 several_next {X = X} one done (suc m) n bytes rest x more e =
     let same : m ≡ n = omega (arith, more) in
-    ap (λ o. onto_all done (o >>= (λ first. several_at one m first.1 >>= (λ others. Some (first.0 ∷ others.0, others.1))))) e ∙ go (several_at one m rest) ∙ ap (λ k. onto_all (done ++ x ∷ []) (several_at one k rest)) same
+    ap (λ o. onto_all done (o >>= (λ first. several_at one m first.1 >>= (λ others. Some (first.0 ∷ others.0, others.1))))) e
+    ∙ go (several_at one m rest) ∙ ap (λ k. onto_all (done ++ x ∷ []) (several_at one k rest)) same
   where
     go : (o : Option (List X × List ℕ)) → onto_all done (o >>= (λ others. Some (x ∷ others.0, others.1))) ≡ onto_all (done ++ x ∷ []) o
     go None = refl
@@ -160,7 +168,8 @@ read_start {X = X} one many bytes =
     go (Some others) = refl
 
 -- one more is read
-pub read_next : {X : Type 0} (one : Reader X) (many counter : ℕ) (values : List X) (bytes rest next : List ℕ) (x : X) → counter < many → one rest ≡ Some (x, next) → AreRead one many counter values bytes rest → AreRead one many (counter + 1) (values ++ x ∷ []) bytes next
+pub read_next : {X : Type 0} (one : Reader X) (many counter : ℕ) (values : List X) (bytes rest next : List ℕ) (x : X)
+    → counter < many → one rest ≡ Some (x, next) → AreRead one many counter values bytes rest → AreRead one many (counter + 1) (values ++ x ∷ []) bytes next
 read_next one many counter values bytes rest next x more e r = record {
   so_many = omega (arith, length-append values (x ∷ []), r.so_many);
   within = omega (arith, more);
@@ -168,11 +177,13 @@ read_next one many counter values bytes rest next x more e r = record {
 }
 
 -- no further one is read
-pub read_none : {X : Type 0} (one : Reader X) (many counter : ℕ) (values : List X) (bytes rest : List ℕ) → counter < many → one rest ≡ None → AreRead one many counter values bytes rest → several_at one many bytes ≡ None
+pub read_none : {X : Type 0} (one : Reader X) (many counter : ℕ) (values : List X) (bytes rest : List ℕ) → counter < many
+    → one rest ≡ None → AreRead one many counter values bytes rest → several_at one many bytes ≡ None
 read_none one many counter values bytes rest more e r = r.all ∙ several_none one values (many - counter) rest (omega (arith, more)) e
 
 -- all are read
-pub read_all : {X : Type 0} (one : Reader X) (many counter : ℕ) (values : List X) (bytes rest : List ℕ) → many ≤ counter → AreRead one many counter values bytes rest → several_at one many bytes ≡ Some (values, rest)
+pub read_all : {X : Type 0} (one : Reader X) (many counter : ℕ) (values : List X) (bytes rest : List ℕ) → many ≤ counter
+    → AreRead one many counter values bytes rest → several_at one many bytes ≡ Some (values, rest)
 read_all one many counter values bytes rest last r = r.all ∙ several_all one values (many - counter) rest (omega (arith, last))
 
 -- no count is read
@@ -181,7 +192,8 @@ unfolding counted_at
 counted_none one least most bytes e = ap (λ o. o >>= (λ count. cond (ltb count.0 least || ltb most count.0) None (several_at one count.0 count.1))) (sym e)
 
 -- a count is read that is out of bounds
-pub counted_outside : {X : Type 0} (one : Reader X) (least most count : ℕ) (bytes rest : List ℕ) → Some (count, rest) ≡ number_at 2 bytes → (count < least) ⊎ (most < count) → counted_at one least most bytes ≡ None
+pub counted_outside : {X : Type 0} (one : Reader X) (least most count : ℕ) (bytes rest : List ℕ)
+    → Some (count, rest) ≡ number_at 2 bytes → (count < least) ⊎ (most < count) → counted_at one least most bytes ≡ None
 unfolding counted_at
 counted_outside one least most count bytes rest e outside =
     ap (λ o. o >>= (λ count. cond (ltb count.0 least || ltb most count.0) None (several_at one count.0 count.1))) (sym e)
@@ -191,7 +203,8 @@ counted_outside one least most count bytes rest e outside =
     ]))
 
 -- a count is read that is within bounds
-pub counted_inside : {X : Type 0} (one : Reader X) (least most count : ℕ) (bytes rest : List ℕ) → Some (count, rest) ≡ number_at 2 bytes → least ≤ count → count ≤ most → counted_at one least most bytes ≡ several_at one count rest
+pub counted_inside : {X : Type 0} (one : Reader X) (least most count : ℕ) (bytes rest : List ℕ)
+    → Some (count, rest) ≡ number_at 2 bytes → least ≤ count → count ≤ most → counted_at one least most bytes ≡ several_at one count rest
 unfolding counted_at
 counted_inside one least most count bytes rest e low high =
     ap (λ o. o >>= (λ count. cond (ltb count.0 least || ltb most count.0) None (several_at one count.0 count.1))) (sym e)

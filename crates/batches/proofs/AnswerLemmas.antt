@@ -1,5 +1,6 @@
 -- The actions that a batch does, and its replies.
-use Rattle.std.proofs.Common.{arith, refl, ap, sym, subst, min, add-one, ◌∙◌, ◌≡◌, ℕ, ◌+◌, ◌<◌, ◌≤◌, List, [], ◌∷◌, ◌++◌, append_assoc, append-nil, length, take, get_or, suc, Result, Ok, Err, Bool, true, false}
+use Rattle.std.proofs.Common.{arith, refl, ap, sym, subst, min, add-one, ◌∙◌, ◌≡◌, ℕ, ◌+◌, ◌<◌, ◌≤◌, List, [], ◌∷◌, ◌++◌}
+use Rattle.std.proofs.Common.{append_assoc, append-nil, length, take, get_or, suc, Result, Ok, Err, Bool, true, false}
 use Rattle.std.specs.Prelude.{nat_le, if◌then◌else◌}
 use Rattle.std.proofs.Math.Seq.{take-suc}
 use Rattle.std.proofs.lemmas.List.{length-append}
@@ -29,7 +30,8 @@ decided : (full : Bool) (e : Result (List ℕ) Refusal) (next : List ℕ) → (i
 decided true e next is = absurd (let h = is in cc)
 decided false e next is = (refl, is)
 
-with_played : (words : List ℕ) (play : Play) (action : Action) (d : Result (List ℕ) Refusal) → decision play.words play.accepted action ≡ d → IsPlayed words play → IsPlayed words (with_action play action d)
+with_played : (words : List ℕ) (play : Play) (action : Action) (d : Result (List ℕ) Refusal)
+    → decision play.words play.accepted action ≡ d → IsPlayed words play → IsPlayed words (with_action play action d)
 with_played words play action (Ok next) is p =
     let both = decided (nat_le 256 (length play.accepted)) (effect play.words action) next is in
     let room : length play.accepted < 256 = (let e = both.0 in grind (arith, nat_tests)) in
@@ -59,7 +61,8 @@ with_written words play action (Ok next) is p =
 with_written words play action (Err refusal) is p = sym (append-nil (accepted_writes words play.accepted))
 
 -- the writes of one more request follow those before it
-pub written_step : (words : List ℕ) (play : Play) (request : Request) → IsPlayed words play → accepted_writes words (after_request play request).accepted ≡ accepted_writes words play.accepted ++ writes_by play request
+pub written_step : (words : List ℕ) (play : Play) (request : Request) → IsPlayed words play
+    → accepted_writes words (after_request play request).accepted ≡ accepted_writes words play.accepted ++ writes_by play request
 written_step words play (Act action) p = with_written words play action (decision play.words play.accepted action) refl p
 written_step words play (Get cell) p = sym (append-nil (accepted_writes words play.accepted))
 written_step words play Bad p = sym (append-nil (accepted_writes words play.accepted))
@@ -76,17 +79,20 @@ replies_snoc play (first ∷ requests) request =
     ap (λ l. 32 ∷ (reply play first ++ l)) (replies_snoc (after_request play first) requests request)
     ∙ sym (append_assoc (32 ∷ reply play first) (replies (after_request play first) requests) (32 ∷ reply (after_requests play (first ∷ requests)) request))
 
-pub after_next : (play : Play) (requests : List Request) (i : ℕ) (d : Request) → i < length requests → after_requests play (take (suc i) requests) ≡ after_request (after_requests play (take i requests)) (get_or requests i d)
+pub after_next : (play : Play) (requests : List Request) (i : ℕ) (d : Request) → i < length requests
+    → after_requests play (take (suc i) requests) ≡ after_request (after_requests play (take i requests)) (get_or requests i d)
 after_next play requests i d below = ap (after_requests play) (take-suc requests i d below) ∙ after_snoc play (take i requests) (get_or requests i d)
 
-pub replies_next : (play : Play) (requests : List Request) (i : ℕ) (d : Request) → i < length requests → replies play (take (suc i) requests) ≡ replies play (take i requests) ++ (32 ∷ reply (after_requests play (take i requests)) (get_or requests i d))
+pub replies_next : (play : Play) (requests : List Request) (i : ℕ) (d : Request) → i < length requests
+    → replies play (take (suc i) requests) ≡ replies play (take i requests) ++ (32 ∷ reply (after_requests play (take i requests)) (get_or requests i d))
 replies_next play requests i d below = ap (replies play) (take-suc requests i d below) ∙ replies_snoc play (take i requests) (get_or requests i d)
 
 answers_snoc : (play : Play) (requests : List Request) (request : Request) → answers play (requests ++ request ∷ []) ≡ answers play requests ++ answer_of (after_requests play requests) request ∷ []
 answers_snoc play [] request = refl
 answers_snoc play (first ∷ requests) request = ap (λ (l : List Answer). answer_of play first ∷ l) (answers_snoc (after_request play first) requests request)
 
-pub answers_next : (play : Play) (requests : List Request) (i : ℕ) (d : Request) → i < length requests → answers play (take (suc i) requests) ≡ answers play (take i requests) ++ answer_of (after_requests play (take i requests)) (get_or requests i d) ∷ []
+pub answers_next : (play : Play) (requests : List Request) (i : ℕ) (d : Request) → i < length requests
+    → answers play (take (suc i) requests) ≡ answers play (take i requests) ++ answer_of (after_requests play (take i requests)) (get_or requests i d) ∷ []
 answers_next play requests i d below = ap (answers play) (take-suc requests i d below) ∙ answers_snoc play (take i requests) (get_or requests i d)
 
 -- ---- the first requests of a batch
@@ -98,7 +104,8 @@ pub record HasRun {S : Type 0} (words : S → List ℕ) (accessed : S → Access
   pub few : length t.list ≤ i
   pub performs : Performs accessed first (accepted_writes (words first) t.list) c
 
-pub has_run_next : {S : Type 0} (words : S → List ℕ) (accessed : S → Access → S → Type 0) (first : S) (requests : List Request) (i : ℕ) (d : Request) (c next : S) (t after : Actions) → i < length requests
+pub has_run_next : {S : Type 0} (words : S → List ℕ) (accessed : S → Access → S → Type 0) (first : S) (requests : List Request)
+    (i : ℕ) (d : Request) (c next : S) (t after : Actions) → i < length requests
     → HasRun words accessed first requests i c t
     → ◌≡◌ {A = Play} (record { words = words next; accepted = after.list }) (after_request (record { words = words c; accepted = t.list }) (get_or requests i d))
     → Performs accessed c (writes_by (record { words = words c; accepted = t.list }) (get_or requests i d)) next

@@ -33,13 +33,15 @@ begun_kept before old new b other requests kept begun = record {
 line_means : (before : List ℕ) (old : Reading) (meaning : Option Command) → KeptMeans Means old.kept meaning → (begun : IsBegun before old) → Means begun.line meaning
 line_means before old meaning means begun = means begun.line (sym begun.kept_is)
 
-all_lines : (before : List ℕ) (old : Reading) (meaning : Option Command) → KeptMeans Means old.kept meaning → (begun : IsBegun before old) → AreLines (before ++ 10 ∷ []) (begun.meanings ++ meaning ∷ [])
+all_lines : (before : List ℕ) (old : Reading) (meaning : Option Command) → KeptMeans Means old.kept meaning
+    → (begun : IsBegun before old) → AreLines (before ++ 10 ∷ []) (begun.meanings ++ meaning ∷ [])
 all_lines before old meaning means begun =
     subst (λ bytes. AreLines bytes (begun.meanings ++ meaning ∷ [])) (sym (append_assoc begun.before begun.line (10 ∷ [])) ∙ ap (λ l. l ++ 10 ∷ []) (sym begun.split))
     (lines_then begun.before (begun.line ++ 10 ∷ []) begun.meanings (meaning ∷ []) begun.lines (line_ends begun.line meaning begun.unbroken (line_means before old meaning means begun)))
 
 -- a line with a request, if there is room for it
-pub begun_more : (before : List ℕ) (old new : Reading) (meaning : Option Command) (request : Request) → KeptMeans Means old.kept meaning → request_of meaning ≡ Some request → length old.requests < BATCH_LINES
+pub begun_more : (before : List ℕ) (old new : Reading) (meaning : Option Command) (request : Request)
+    → KeptMeans Means old.kept meaning → request_of meaning ≡ Some request → length old.requests < BATCH_LINES
     → new.requests ≡ old.requests ++ request ∷ [] → new.kept ≡ [] → IsBegun before old → IsBegun (before ++ 10 ∷ []) new
 begun_more before old new meaning request means asks room requests kept begun = record {
   before = before ++ 10 ∷ [];
@@ -54,7 +56,8 @@ begun_more before old new meaning request means asks room requests kept begun = 
 }
 
 -- a line with a request, if there is no room for it
-pub begun_too_much : (before : List ℕ) (old : Reading) (meaning : Option Command) (request : Request) → KeptMeans Means old.kept meaning → request_of meaning ≡ Some request → BATCH_LINES ≤ length old.requests
+pub begun_too_much : (before : List ℕ) (old : Reading) (meaning : Option Command) (request : Request)
+    → KeptMeans Means old.kept meaning → request_of meaning ≡ Some request → BATCH_LINES ≤ length old.requests
     → IsBegun before old → IsTooMuch (before ++ 10 ∷ [])
 begun_too_much before old meaning request means asks full begun = record {
   meanings = begun.meanings ++ meaning ∷ [];
@@ -65,7 +68,8 @@ begun_too_much before old meaning request means asks full begun = record {
 }
 
 -- the `end` of a batch
-pub begun_ends : (before : List ℕ) (old : Reading) (meaning : Option Command) → KeptMeans Means old.kept meaning → request_of meaning ≡ None → IsBegun before old → IsWhole (before ++ 10 ∷ []) old.requests
+pub begun_ends : (before : List ℕ) (old : Reading) (meaning : Option Command) → KeptMeans Means old.kept meaning
+    → request_of meaning ≡ None → IsBegun before old → IsWhole (before ++ 10 ∷ []) old.requests
 begun_ends before old meaning means ends begun = record {
   meanings = begun.meanings ++ meaning ∷ [];
   lines = all_lines before old meaning means begun;

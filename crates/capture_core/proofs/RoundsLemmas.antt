@@ -39,7 +39,8 @@ with_taken-front old marked image0 image i answer marks covers cells below front
       | inl left ↦
           let is : answer ≡ Some (Word (get_or old.live i 0)) = gives ∙ ap (option_map taken_of) (slice_get-drop i marked.left ∙ left) in
           let becomes : with_taken image i answer ≡ set image i (get_or old.live i 0) = ap (with_taken image i) is in
-          let placed : set (take i old.live ++ get_or image0 i 0 ∷ drop (i + 1) image0) i (get_or old.live i 0) ≡ take i old.live ++ get_or old.live i 0 ∷ drop (i + 1) image0 = set_at (take i old.live) _ _ _ i taken in
+          let placed : set (take i old.live ++ get_or image0 i 0 ∷ drop (i + 1) image0) i (get_or old.live i 0)
+          ≡ take i old.live ++ get_or old.live i 0 ∷ drop (i + 1) image0 = set_at (take i old.live) _ _ _ i taken in
           cc
       | inr (left, untouched) ↦
           let is : answer ≡ Some Same = gives ∙ ap (option_map taken_of) (slice_get-drop i marked.left ∙ left) in
@@ -87,7 +88,8 @@ took : {old marked : Content} {image0 : List ℕ} {changes : List (ℕ × ℕ)} 
     → Took old marked image0 changes i next image'
 took {old} {marked} {image0} {changes} {i} {now} {image} copying on answer next takes image' becomes = record {
   left = ap (λ store. store.left) takes.rest ∙ ap (drop 1) copying.left ∙ drop-drop 1 i marked.left;
-  front = becomes ∙ with_taken-front old marked image0 image i answer on.marks on.covers on.cells on.below copying.front (takes.gives ∙ ap (λ left. option_map taken_of (slice_get left 0)) copying.left);
+  front =
+      becomes ∙ with_taken-front old marked image0 image i answer on.marks on.covers on.cells on.below copying.front (takes.gives ∙ ap (λ left. option_map taken_of (slice_get left 0)) copying.left);
   live = ap (λ store. store.live) takes.rest ∙ copying.live;
   covered = subst (λ (store : Content). Covers old.live store) (sym takes.rest) copying.covered;
 }

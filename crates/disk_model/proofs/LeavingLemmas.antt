@@ -12,7 +12,8 @@ length_filled byte durable [] = refl
 length_filled byte [] (mark ∷ unsynced) = ap suc (length_filled byte [] unsynced)
 length_filled byte (first ∷ durable) (mark ∷ unsynced) = ap suc (length_filled byte durable unsynced)
 
-pub filled_uncertain : (byte : ℕ) (durable : List ℕ) (unsynced : List Bool) (place : ℕ) → place < length unsynced → Marked unsynced place ⊎ (length durable ≤ place) → get_or (filled byte durable unsynced) place 0 ≡ byte
+pub filled_uncertain : (byte : ℕ) (durable : List ℕ) (unsynced : List Bool) (place : ℕ) → place < length unsynced
+    → Marked unsynced place ⊎ (length durable ≤ place) → get_or (filled byte durable unsynced) place 0 ≡ byte
 filled_uncertain byte durable [] place few h = absurd (omega (arith, few))
 filled_uncertain byte [] (mark ∷ unsynced) zero few h = refl
 filled_uncertain byte [] (mark ∷ unsynced) (suc place) few h = filled_uncertain byte [] unsynced place (omega (arith, few)) (inr (omega arith))
@@ -25,7 +26,8 @@ by_mark : (mark : Bool) (byte first : ℕ) → (mark ≡ true → ⊥) → (if m
 by_mark true byte first h = absurd (h refl)
 by_mark false byte first h = refl
 
-pub filled_certain : (byte : ℕ) (durable : List ℕ) (unsynced : List Bool) (place : ℕ) → place < length unsynced → (Marked unsynced place → ⊥) → place < length durable → get_or (filled byte durable unsynced) place 0 ≡ get_or durable place 0
+pub filled_certain : (byte : ℕ) (durable : List ℕ) (unsynced : List Bool) (place : ℕ) → place < length unsynced
+    → (Marked unsynced place → ⊥) → place < length durable → get_or (filled byte durable unsynced) place 0 ≡ get_or durable place 0
 filled_certain byte durable [] place few h within = absurd (omega (arith, few))
 filled_certain byte [] (mark ∷ unsynced) place few h within = absurd (omega (arith, within))
 filled_certain byte (first ∷ durable) (mark ∷ unsynced) zero few h within = by_mark mark byte first h
@@ -64,11 +66,13 @@ certain_within file place h = elim (cases_lt place (length file.durable)) [ inl 
 pub filled_one : (byte : ℕ) (file : FileState) (place : ℕ) → place < length file.content → IsUncertain file place → byte ≡ get_or (filled byte file.durable file.unsynced) place 0
 filled_one byte file place few h = sym (filled_uncertain byte file.durable file.unsynced place (omega (arith, few, file.in_order.marks)) h)
 
-pub filled_kept : (byte : ℕ) (file : FileState) (place : ℕ) → place < length file.content → (IsUncertain file place → ⊥) → get_or file.durable place 0 ≡ get_or (filled byte file.durable file.unsynced) place 0
+pub filled_kept : (byte : ℕ) (file : FileState) (place : ℕ) → place < length file.content → (IsUncertain file place → ⊥)
+    → get_or file.durable place 0 ≡ get_or (filled byte file.durable file.unsynced) place 0
 filled_kept byte file place few h =
     sym (filled_certain byte file.durable file.unsynced place (omega (arith, few, file.in_order.marks)) (λ m. h (inl m)) (certain_within file place h))
 
-pub filled_more : (byte : ℕ) (file : FileState) (place : ℕ) → place < length file.content → take (place + 1) (filled byte file.durable file.unsynced) ≡ take place (filled byte file.durable file.unsynced) ++ get_or (filled byte file.durable file.unsynced) place 0 ∷ []
+pub filled_more : (byte : ℕ) (file : FileState) (place : ℕ) → place < length file.content
+    → take (place + 1) (filled byte file.durable file.unsynced) ≡ take place (filled byte file.durable file.unsynced) ++ get_or (filled byte file.durable file.unsynced) place 0 ∷ []
 filled_more byte file place few =
     let same : length (filled byte file.durable file.unsynced) ≡ length file.content = length_filled byte file.durable file.unsynced ∙ file.in_order.marks in
     take_more (filled byte file.durable file.unsynced) place 0 (omega (arith, few, same))

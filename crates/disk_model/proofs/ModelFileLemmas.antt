@@ -16,7 +16,8 @@ agrees_after : (durable content : List ℕ) (table : List Bool) (at : ℕ) (byte
 agrees_after durable content table at bytes inside order place short none =
     let n = length bytes in
     elim (cases_lt place at) [
-      | inl low ↦ overwritten_before content at bytes inside place 0 low ∙ order.agrees place short (λ marked. none (overwritten_before table at (replicate n true) (omega (arith, order.marks)) place false low ∙ marked))
+      | inl low ↦ overwritten_before content at bytes inside place 0 low ∙ order.agrees place short
+          (λ marked. none (overwritten_before table at (replicate n true) (omega (arith, order.marks)) place false low ∙ marked))
       | inr from ↦ elim (cases_lt place (at + n)) [
         | inl to ↦ absurd (none (marked_inside table at n place (omega (arith, order.marks)) from to))
         | inr past ↦ overwritten_after content at bytes inside place 0 past
@@ -77,6 +78,10 @@ none_left table first n none place marked =
       | inl low ↦ none place (omega arith) (sym (get_or_append_left front (replicate n false) false place low ∙ get_or-take first table place false (omega arith)) ∙ marked)
       | inr from ↦ elim (cases_lt (place - length front) n) [
         | inl inside ↦ false-true (sym (get_or-append_right front (replicate n false) (length front) place false refl from ∙ get_or-replicate n (place - length front) false false inside) ∙ marked)
-        | inr past ↦ false-true (sym (get_or-append_right front (replicate n false) (length front) place false refl from ∙ get_or_past (replicate n false) (place - length front) false (omega (arith, length-replicate n false))) ∙ marked)
+        | inr past
+            ↦ false-true
+            (sym
+            (get_or-append_right front (replicate n false) (length front) place false refl from
+            ∙ get_or_past (replicate n false) (place - length front) false (omega (arith, length-replicate n false))) ∙ marked)
       ]
     ]

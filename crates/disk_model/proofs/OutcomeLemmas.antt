@@ -1,5 +1,6 @@
 -- The bytes that a crash may leave after each call.
-use Rattle.std.proofs.Common.{◌≡◌, ◌⊎◌, ℕ, ◌+◌, ◌-◌, ◌<◌, ◌≤◌, max, min, List, [], Bool, true, false, ◌++◌, length, get_or, take, drop, replicate, sym, ◌∙◌, ap, subst, arith, length-append, length-drop, inl, inr}
+use Rattle.std.proofs.Common.{◌≡◌, ◌⊎◌, ℕ, ◌+◌, ◌-◌, ◌<◌, ◌≤◌, max, min, List, [], Bool, true, false, ◌++◌, length, get_or, take}
+use Rattle.std.proofs.Common.{drop, replicate, sym, ◌∙◌, ap, subst, arith, length-append, length-drop, inl, inr}
 use Rattle.std.proofs.lemmas.List.{nil_from_length, append-nil, length-take, length-replicate, get_or-replicate, get_or-take, get_or-drop, same_lists, take-take, take_all, drop_all, ext_get_or}
 use Rattle.std.proofs.lemmas.Bool.{cases_lt}
 use Rattle.file_format.specs.Number.{IsBytes}
@@ -55,7 +56,16 @@ module _ (old new : FileState) (at : ℕ) (bytes left : List ℕ) (inside : at �
   length_restored = omega (arith, length-take n (drop at durable), length-drop at durable)
 
   length_undone : length undone ≡ length left
-  length_undone = omega (arith, length_restored, left_no_shorter, length-append (take at left ++ restored) (drop (at + length restored) left), length-append (take at left) restored, length-take at left, length-drop (at + length restored) left)
+  length_undone =
+      omega (
+        arith,
+        length_restored,
+        left_no_shorter,
+        length-append (take at left ++ restored) (drop (at + length restored) left),
+        length-append (take at left) restored,
+        length-take at left,
+        length-drop (at + length restored) left,
+      )
 
   abbrev before : List ℕ
   before = take longest undone

@@ -13,11 +13,13 @@ module _ {S : Type 0} (called : S → Call → Bool → S → Type 0) where
   pub asked_none : (most : ℕ) (state : S) → OnlyAsked called most state state
   asked_none most state = (0, refl)
 
-  pub asked_more : (most : ℕ) (old between new : S) (call : Call) (succeeded : Bool) → OnlyAsked called most old between → AsksWithin most call → called between call succeeded new → OnlyAsked called most old new
+  pub asked_more : (most : ℕ) (old between new : S) (call : Call) (succeeded : Bool) → OnlyAsked called most old between
+      → AsksWithin most call → called between call succeeded new → OnlyAsked called most old new
   asked_more most old between new call succeeded asked within made = (suc asked.0, (between, asked.1, (call, succeeded, within, made)))
 
   -- one more read, or none
-  pub asked_read : (most : ℕ) (old between new : S) (at count : ℕ) → OnlyAsked called most old between → at + count ≤ most → (new ≡ between) ⊎ ((succeeded : Bool) × called between (Read at count) succeeded new) → OnlyAsked called most old new
+  pub asked_read : (most : ℕ) (old between new : S) (at count : ℕ) → OnlyAsked called most old between → at + count ≤ most
+      → (new ≡ between) ⊎ ((succeeded : Bool) × called between (Read at count) succeeded new) → OnlyAsked called most old new
   asked_read most old between new at count asked within (inl same) = subst (λ (s : S). OnlyAsked called most old s) (let back : between ≡ new = cc in back) asked
   asked_read most old between new at count asked within (inr made) = asked_more most old between new (Read at count) made.0 asked within made.1
 

@@ -1,5 +1,6 @@
 -- The first bytes of a file, and how they read.
-use Rattle.std.proofs.Common.{◌≡◌, ◌≢◌, ◌⊎◌, inl, inr, ℕ, ◌+◌, ◌-◌, ◌<◌, ◌≤◌, min, Bool, true, false, List, [], ◌∷◌, ◌++◌, length, get_or, take, drop, Result, Ok, Err, OnOk, refl, sym, ap, subst, ◌∙◌, append_assoc, arith}
+use Rattle.std.proofs.Common.{◌≡◌, ◌≢◌, ◌⊎◌, inl, inr, ℕ, ◌+◌, ◌-◌, ◌<◌, ◌≤◌, min, Bool, true, false, List, [], ◌∷◌, ◌++◌, length}
+use Rattle.std.proofs.Common.{get_or, take, drop, Result, Ok, Err, OnOk, refl, sym, ap, subst, ◌∙◌, append_assoc, arith}
 use Rattle.std.specs.List.{flat_map}
 use Rattle.std.proofs.lemmas.Bool.{cases_lt}
 use Rattle.std.proofs.lemmas.List.{drop_at, take-append-drop, take-take, take_all, length-append, length-take-le, length-drop, get_or-take, get_or-drop, append-nil}
@@ -89,7 +90,8 @@ read_all bytes file first some alike = record {
   reads = subst (λ (l : List ℕ). ReadsAlike l file) (sym (take_all (length bytes) bytes (omega arith))) alike;
 }
 
-pub read_to_most : Past → (bytes file : List ℕ) (groups_end ticks most : ℕ) → IsExtent bytes groups_end ticks false → bytes ≡ take (length bytes) file → length bytes ≤ most → most ≤ length bytes → most ≡ min (length file) SEGMENT_BYTES_MAX → IsSegmentRead file (take (length bytes) bytes)
+pub read_to_most : Past → (bytes file : List ℕ) (groups_end ticks most : ℕ) → IsExtent bytes groups_end ticks false
+    → bytes ≡ take (length bytes) file → length bytes ≤ most → most ≤ length bytes → most ≡ min (length file) SEGMENT_BYTES_MAX → IsSegmentRead file (take (length bytes) bytes)
 read_to_most past bytes file groups_end ticks most x first within far is =
     read_all bytes file first (λ has. omega (arith, x.leading.long)) (elim (cases_lt (length bytes) (length file)) [
       | inl more ↦ alike_then bytes (bytes ++ drop (length bytes) file) file
@@ -98,7 +100,9 @@ read_to_most past bytes file groups_end ticks most x first within far is =
       | inr all ↦ alike_same bytes file (whole_file file bytes first all)
     ])
 
-pub read_headless : Headless → (bytes file : List ℕ) (most : ℕ) → HasNoGroups bytes → (length bytes ≡ most) ⊎ (HEADER_BYTES ≤ length bytes) → bytes ≡ take (length bytes) file → length bytes ≤ most → most ≡ min (length file) SEGMENT_BYTES_MAX → IsSegmentRead file (take (length bytes) bytes)
+pub read_headless : Headless → (bytes file : List ℕ) (most : ℕ) → HasNoGroups bytes
+    → (length bytes ≡ most) ⊎ (HEADER_BYTES ≤ length bytes) → bytes ≡ take (length bytes) file → length bytes ≤ most
+    → most ≡ min (length file) SEGMENT_BYTES_MAX → IsSegmentRead file (take (length bytes) bytes)
 read_headless headless bytes file most none far first within is =
     elim (cases_lt (length bytes) (length file)) [
       | inl more ↦ (
@@ -112,10 +116,14 @@ read_headless headless bytes file most none far first within is =
 -- ---- a gate that ends the groups isn't among bytes whose groups don't end
 
 abbrev Whole : Type 0
-Whole = (bytes : List ℕ) (groups_end ticks : ℕ) (ended : Bool) (base : ℕ) (list : List Tick) → IsExtent bytes groups_end ticks ended → (segment : IsOpenSegment bytes base list) → (groups_end + length segment.rest ≡ length bytes) × (groups_end < SEGMENT_BYTES_MAX)
+Whole =
+    (bytes : List ℕ) (groups_end ticks : ℕ) (ended : Bool) (base : ℕ) (list : List Tick) → IsExtent bytes groups_end ticks ended
+    → (segment : IsOpenSegment bytes base list) → (groups_end + length segment.rest ≡ length bytes) × (groups_end < SEGMENT_BYTES_MAX)
 
 abbrev Cut : Type 0
-Cut = (bytes : List ℕ) (groups_end ticks : ℕ) (ended : Bool) (extent : IsExtent bytes groups_end ticks ended) (behind : List ℕ) → EndsGroups behind → HEADER_BYTES ≤ groups_end + length behind → IsSegment (take groups_end bytes ++ behind) (OpenSegment extent.base (joined extent.groups))
+Cut =
+    (bytes : List ℕ) (groups_end ticks : ℕ) (ended : Bool) (extent : IsExtent bytes groups_end ticks ended) (behind : List ℕ)
+    → EndsGroups behind → HEADER_BYTES ≤ groups_end + length behind → IsSegment (take groups_end bytes ++ behind) (OpenSegment extent.base (joined extent.groups))
 
 rest_is : (bytes front rest : List ℕ) (place : ℕ) → bytes ≡ front ++ rest → place + length rest ≡ length bytes → rest ≡ drop place bytes
 rest_is bytes front rest place parts at =
@@ -143,7 +151,9 @@ module _ (whole : Whole) (cut : Cut) (bytes : List ℕ) (groups_end ticks : ℕ)
   behind_gate place within later =
       let first = take place bytes in
       let all : length first ≡ place = length-take-le place bytes within in
-      let rest : x.rest ≡ drop groups_end bytes = rest_is bytes (OPEN_GATE ∷ (spelled_base x.format x.base ++ flat_map group_bytes x.groups)) x.rest groups_end (spelled_front bytes (spelled_base x.format x.base) (flat_map group_bytes x.groups) x.rest x.leading.spelled) x.place in
+      let rest : x.rest
+      ≡ drop groups_end bytes = rest_is bytes (OPEN_GATE ∷ (spelled_base x.format x.base ++ flat_map group_bytes x.groups)) x.rest
+      groups_end (spelled_front bytes (spelled_base x.format x.base) (flat_map group_bytes x.groups) x.rest x.leading.spelled) x.place in
       let gate : get_or (drop groups_end first) 0 0 ≡ get_or x.rest 0 0 =
       get_or-drop groups_end first 0 0 ∙ get_or-take place bytes (groups_end + 0) 0 (omega arith) ∙ sym (get_or-drop groups_end bytes 0 0) ∙ ap (λ (l : List ℕ). get_or l 0 0) (sym rest) in
       ends_by (drop groups_end first) (omega (arith, length-drop groups_end first, all)) (λ open_gate. (x.shut refl).1 (sym gate ∙ open_gate))
@@ -162,13 +172,16 @@ module _ (whole : Whole) (cut : Cut) (bytes : List ℕ) (groups_end ticks : ℕ)
             let front = OPEN_GATE ∷ (spelled_base y.format y.base ++ flat_map group_bytes y.groups) in
             let own : first ≡ front ++ y.rest = spelled_front first (spelled_base y.format y.base) (flat_map group_bytes y.groups) y.rest y.leading.spelled in
             let same : segment.rest ≡ y.rest =
-            rest_is first (OPEN_GATE ∷ (spelled_base segment.format x.base ++ flat_map group_bytes segment.groups)) segment.rest other_end (spelled_front first (spelled_base segment.format x.base) (flat_map group_bytes segment.groups) segment.rest segment.spelled) at
+            rest_is first (OPEN_GATE ∷ (spelled_base segment.format x.base ++ flat_map group_bytes segment.groups)) segment.rest
+            other_end (spelled_front first (spelled_base segment.format x.base) (flat_map group_bytes segment.groups) segment.rest segment.spelled) at
             ∙ sym (rest_is first front y.rest other_end own y.place) in
             let none : y.rest ≡ [] = no_bytes y.rest (none_left y.rest (subst EndsGroups same segment.ends) (y.not_shut refl)) in
             let is_front : first ≡ front = own ∙ ap (λ (l : List ℕ). front ++ l) none ∙ append-nil front in
             let further : HasGroups bytes y.format y.base y.groups (drop place bytes) = record {
               are_groups = y.leading.are_groups;
-              spelled = sym (take-append-drop place bytes) ∙ ap (λ (l : List ℕ). l ++ drop place bytes) is_front ∙ ap (λ (l : List ℕ). OPEN_GATE ∷ l) (append_assoc (spelled_base y.format y.base) (flat_map group_bytes y.groups) (drop place bytes));
+              spelled =
+                  sym (take-append-drop place bytes) ∙ ap (λ (l : List ℕ). l ++ drop place bytes) is_front ∙ ap
+                  (λ (l : List ℕ). OPEN_GATE ∷ l) (append_assoc (spelled_base y.format y.base) (flat_map group_bytes y.groups) (drop place bytes));
               long = x.leading.long;
               few = y.leading.few;
               numbered = y.leading.numbered;
@@ -195,12 +208,17 @@ exact_headless bytes none base ticks segment =
     absurd (subst HasNoGroups (sym same) none segment.format base segment.groups segment.rest (open_groups (take (length bytes) bytes) base ticks segment))
 
 -- the rest of an open segment is that of its extent
-rest_of_extent : Whole → (bytes : List ℕ) (groups_end ticks : ℕ) (ended : Bool) (x : IsExtent bytes groups_end ticks ended) (base : ℕ) (list : List Tick) (segment : IsOpenSegment bytes base list) → segment.rest ≡ x.rest
+rest_of_extent : Whole → (bytes : List ℕ) (groups_end ticks : ℕ) (ended : Bool) (x : IsExtent bytes groups_end ticks ended)
+    (base : ℕ) (list : List Tick) (segment : IsOpenSegment bytes base list) → segment.rest ≡ x.rest
 rest_of_extent whole bytes groups_end ticks ended x base list segment =
-    rest_is bytes (OPEN_GATE ∷ (spelled_base segment.format base ++ flat_map group_bytes segment.groups)) segment.rest groups_end (spelled_front bytes (spelled_base segment.format base) (flat_map group_bytes segment.groups) segment.rest segment.spelled) (whole bytes groups_end ticks ended base list x segment).0
-    ∙ sym (rest_is bytes (OPEN_GATE ∷ (spelled_base x.format x.base ++ flat_map group_bytes x.groups)) x.rest groups_end (spelled_front bytes (spelled_base x.format x.base) (flat_map group_bytes x.groups) x.rest x.leading.spelled) x.place)
+    rest_is bytes (OPEN_GATE ∷ (spelled_base segment.format base ++ flat_map group_bytes segment.groups)) segment.rest groups_end
+    (spelled_front bytes (spelled_base segment.format base) (flat_map group_bytes segment.groups) segment.rest segment.spelled) (whole bytes groups_end ticks ended base list x segment).0
+    ∙ sym
+    (rest_is bytes (OPEN_GATE ∷ (spelled_base x.format x.base ++ flat_map group_bytes x.groups)) x.rest groups_end
+    (spelled_front bytes (spelled_base x.format x.base) (flat_map group_bytes x.groups) x.rest x.leading.spelled) x.place)
 
-pub exact_to_most : Whole → (bytes : List ℕ) (groups_end ticks : ℕ) → IsExtent bytes groups_end ticks false → (base : ℕ) (list : List Tick) (segment : IsOpenSegment (take (length bytes) bytes) base list) → length segment.rest ≤ 1
+pub exact_to_most : Whole → (bytes : List ℕ) (groups_end ticks : ℕ) → IsExtent bytes groups_end ticks false
+    → (base : ℕ) (list : List Tick) (segment : IsOpenSegment (take (length bytes) bytes) base list) → length segment.rest ≤ 1
 exact_to_most whole bytes groups_end ticks x base list segment =
     let same : bytes ≡ take (length bytes) bytes = sym (take_all (length bytes) bytes (omega arith)) in
     let here : IsExtent (take (length bytes) bytes) groups_end ticks false = subst (λ (l : List ℕ). IsExtent l groups_end ticks false) same x in
@@ -212,7 +230,8 @@ ends_more : (rest more : List ℕ) → 0 < length rest → EndsGroups rest → E
 ends_more [] more some ends = absurd (omega (arith, some))
 ends_more (gate ∷ rest) more some ends = ends
 
-pub exact_to_gate : Whole → (bytes : List ℕ) (groups_end ticks : ℕ) → IsExtent bytes groups_end ticks true → (base : ℕ) (list : List Tick) (segment : IsOpenSegment (take (groups_end + 1) bytes) base list) → length segment.rest ≤ 1
+pub exact_to_gate : Whole → (bytes : List ℕ) (groups_end ticks : ℕ) → IsExtent bytes groups_end ticks true
+    → (base : ℕ) (list : List Tick) (segment : IsOpenSegment (take (groups_end + 1) bytes) base list) → length segment.rest ≤ 1
 exact_to_gate whole bytes groups_end ticks x base list segment =
     elim (cases_lt 0 (length segment.rest)) [
       | inl some ↦ (

@@ -58,7 +58,9 @@ module _ (file header : List ℕ) (is : header ≡ take 17 file) (long : 17 ≤ 
       let count : length header ≡ 17 = omega arith in
       ap (λ (n : ℕ). image_of (take n file)) count ∙ ap image_of (sym is)
       ∙ open_with header None (tick_in header) long gate none refl
-      ∙ sym (open_with file None (tick_in header) inside file_gate (sym (cells_cut file 17 inside (omega arith)) ∙ ap cells_in (sym is) ∙ none) (sym (tick_cut file 17 inside (omega arith)) ∙ ap tick_in (sym is)))
+      ∙ sym
+      (open_with file None (tick_in header) inside file_gate
+      (sym (cells_cut file 17 inside (omega arith)) ∙ ap cells_in (sym is) ∙ none) (sym (tick_cut file 17 inside (omega arith)) ∙ ap tick_in (sym is)))
 
   -- after the words no byte counts
   pub image_words : (cells : ℕ) → cells_in header ≡ Some cells → image_of (take (17 + 8 * cells) file) ≡ image_of file
@@ -76,7 +78,8 @@ module _ (file header : List ℕ) (is : header ≡ take 17 file) (long : 17 ≤ 
             let second : nat_le (17 + 8 * cells) (length file) ≡ true = le-leb _ _ room in
             let words : words_from cut 17 cells ≡ words_from file 17 cells = words_cut file end room 17 cells (omega arith) in
             let same : open_image cut (Some cells) tick ≡ open_image file (Some cells) tick = rw (first, second, words) refl in
-            open_with cut (Some cells) tick (omega (arith, all)) (get_or-take end file 0 0 (omega arith) ∙ file_gate) (cells_cut file end room header_within ∙ of_file) (tick_cut file end room header_within)
+            open_with cut (Some cells) tick (omega (arith, all)) (get_or-take end file 0 0 (omega arith) ∙ file_gate)
+            (cells_cut file end room header_within ∙ of_file) (tick_cut file end room header_within)
             ∙ same
             ∙ sym (open_with file (Some cells) tick inside file_gate of_file refl))
       ]
@@ -92,5 +95,6 @@ image_exact header bytes len end tick words head first all exact is =
     let whole : length header ≡ 17 = omega (arith, head, all, room) in
     let long : 17 ≤ length bytes = omega (arith, room) in
     let cells : cells_in header ≡ Some (length words) =
-    ap cells_in (sym first ∙ ap (λ (n : ℕ). take n bytes) whole) ∙ cells_cut bytes 17 long (omega arith) ∙ cells_found file.format (number_at bytes 1) (length words) file.marked_is file.some file.most in
+    ap cells_in (sym first ∙ ap (λ (n : ℕ). take n bytes) whole) ∙ cells_cut bytes 17 long (omega arith)
+    ∙ cells_found file.format (number_at bytes 1) (length words) file.marked_is file.some file.most in
     omega (arith, exact (length words) (omega (arith, whole)) cells, all, room)

@@ -1,5 +1,6 @@
 -- The header and the words of a target, and the opening of its gate.
-use Rattle.std.proofs.Common.{◌≡◌, ◌⊎◌, inl, inr, ⊎_elim, Some, ℕ, zero, suc, ◌+◌, ◌-◌, ◌^◌, ◌<◌, ◌≤◌, List, [], ◌∷◌, ◌++◌, IsTrue, length, get_or, take, drop, refl, sym, ◌∙◌, ap, subst, arith, length-append}
+use Rattle.std.proofs.Common.{◌≡◌, ◌⊎◌, inl, inr, ⊎_elim, Some, ℕ, zero, suc, ◌+◌, ◌-◌, ◌^◌, ◌<◌, ◌≤◌, List, [], ◌∷◌, ◌++◌}
+use Rattle.std.proofs.Common.{IsTrue, length, get_or, take, drop, refl, sym, ◌∙◌, ap, subst, arith, length-append}
 use Rattle.std.proofs.lemmas.List.{append-nil, append_assoc, drop-drop, length-take}
 use Rattle.std.specs.List.{list_all}
 use Rattle.disk_model.specs.Disk.{Torn, Follows, Within, Only, overwritten}
@@ -78,8 +79,11 @@ header_fits old bytes cells tick long some most small_tick shut is =
     let second : file ≡ (take 1 old ++ number_bytes 8 marked) ++ (number_bytes 8 tick ++ rest) = first ∙ sym (append_assoc (take 1 old) (number_bytes 8 marked) (number_bytes 8 tick ++ rest)) in
     let gate : get_or file 0 0 ≡ get_or old 0 0 = first_kept old (bytes ++ rest) (append_assoc (take 1 old) bytes rest) long in (
       (omega (arith, long_file), λ is_open. shut.1 (sym gate ∙ is_open)),
-      ap unmarked (ap (λ (l : List ℕ). number_at l 1) first ∙ number_written (take 1 old) (number_bytes 8 tick ++ rest) 1 marked front (marked_fits Second cells most)) ∙ unmarked-marked_of Second cells (omega (arith, most)),
-      ap tick_in second ∙ number_written (take 1 old ++ number_bytes 8 marked) rest 9 tick (omega (arith, length-append (take 1 old) (number_bytes 8 marked), front, length-number_bytes 8 marked)) small_tick,
+      ap unmarked
+          (ap (λ (l : List ℕ). number_at l 1) first ∙ number_written (take 1 old) (number_bytes 8 tick ++ rest) 1 marked front
+          (marked_fits Second cells most)) ∙ unmarked-marked_of Second cells (omega (arith, most)),
+      ap tick_in second ∙ number_written (take 1 old ++ number_bytes 8 marked) rest 9 tick
+          (omega (arith, length-append (take 1 old) (number_bytes 8 marked), front, length-number_bytes 8 marked)) small_tick,
       omega (arith, long_file),
     )
   where
@@ -172,7 +176,8 @@ module _ (keeper : Progress) (old newest : List ℕ) (phase : keeper.phase ≡ O
   ]
 
   -- the bytes that a crash leaves after the write, whole or not
-  module _ (new : List ℕ) (same : drop 1 new ≡ drop 1 old) (before after : List ℕ → Type 0) (follows : Follows (Torn 0 1) before after) (read : Image) (stood : TargetEndures keeper.phase keeper read old newest before) where
+  module _ (new : List ℕ) (same : drop 1 new ≡ drop 1 old) (before after : List ℕ → Type 0)
+      (follows : Follows (Torn 0 1) before after) (read : Image) (stood : TargetEndures keeper.phase keeper read old newest before) where
     left_so : (left : List ℕ) → after left → (image_of left ≡ Image.Closed) ⊎ (image_of left ≡ Image.Open keeper.tick (done keeper old newest))
     left_so left outcome =
         let only = subst (λ (p : Phase). TargetEndures p keeper read old newest before) phase stood in

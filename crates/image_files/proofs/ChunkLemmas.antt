@@ -28,7 +28,8 @@ filled_words-push (c ∷ cells) cell old =
     moved [] n = refl
     moved (x ∷ l) n = refl
 
-pub filled_words-append : (cells : List Taken) (cell : Taken) (old : List ℕ) (word : ℕ) → length old ≡ length cells → filled_words (cells ++ cell ∷ []) (old ++ word ∷ []) ≡ filled_words cells old ++ word_of cell word ∷ []
+pub filled_words-append : (cells : List Taken) (cell : Taken) (old : List ℕ) (word : ℕ) → length old ≡ length cells
+    → filled_words (cells ++ cell ∷ []) (old ++ word ∷ []) ≡ filled_words cells old ++ word_of cell word ∷ []
 filled_words-append [] cell [] word same = refl
 filled_words-append [] cell (x ∷ old) word same = absurd (omega (arith, same))
 filled_words-append (c ∷ cells) cell [] word same = absurd (omega (arith, same))
@@ -47,7 +48,8 @@ length-flat_map [] = refl
 length-flat_map (w ∷ words) = let e = length-flat_map words in omega (arith, e, length-append (number_bytes 8 w) (flat_map (number_bytes 8) words), length-number_bytes 8 w)
 
 -- one number more in the buffer
-pub encode_step : (buffer : List ℕ) (cells : List Taken) (i : ℕ) (d : Taken) → i < length cells → 8 * length cells ≤ length buffer → take (8 * i) buffer ≡ flat_map (number_bytes 8) (filled_words (take i cells) [])
+pub encode_step : (buffer : List ℕ) (cells : List Taken) (i : ℕ) (d : Taken) → i < length cells → 8 * length cells ≤ length buffer
+    → take (8 * i) buffer ≡ flat_map (number_bytes 8) (filled_words (take i cells) [])
     → take (8 * (i + 1)) (take (8 * i) buffer ++ number_bytes 8 (word_of (get_or cells i d) 0) ++ drop (8 * i + 8) buffer) ≡ flat_map (number_bytes 8) (filled_words (take (i + 1) cells) [])
 encode_step buffer cells i d lt room so_far =
     let cell = get_or cells i d in

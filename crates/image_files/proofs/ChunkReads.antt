@@ -72,7 +72,8 @@ limit_filled (Same ∷ cells) (x ∷ old) small known =
 
 -- ---- the newest image
 
-image_in : (newest : Option (Slot × ℕ)) (file words : List ℕ) → IfSome newest (λ image. image_of file ≡ Image.Open image.1 words) → is_some newest ≡ true → (tick : ℕ) × (image_of file ≡ Image.Open tick words)
+image_in : (newest : Option (Slot × ℕ)) (file words : List ℕ) → IfSome newest (λ image. image_of file ≡ Image.Open image.1 words)
+    → is_some newest ≡ true → (tick : ℕ) × (image_of file ≡ Image.Open tick words)
 image_in None file words is some = absurd (cc some)
 image_in (Some image) file words is some = (image.1, is)
 
@@ -100,7 +101,8 @@ read keeper chunk = record keeper { phase = Writing; chunk = chunk }
 pub read_in_order : (keeper : Progress) (words : List ℕ) → IsInOrder keeper → keeper.phase ≡ Reading → IsInOrder (read keeper (map (λ (word : ℕ). Word word) (filled_words keeper.chunk words)))
 read_in_order keeper words order phase =
     let reading = in_phase keeper order phase in
-    let count : length (map (λ (word : ℕ). Word word) (filled_words keeper.chunk words)) ≡ length keeper.chunk = length-map (filled_words keeper.chunk words) (λ (word : ℕ). Word word) ∙ length-filled_words keeper.chunk words in
+    let count : length (map (λ (word : ℕ). Word word) (filled_words keeper.chunk words))
+    ≡ length keeper.chunk = length-map (filled_words keeper.chunk words) (λ (word : ℕ). Word word) ∙ length-filled_words keeper.chunk words in
     record {
       some = order.some;
       most = order.most;
@@ -131,7 +133,8 @@ module _ (keeper : Progress) (target newest : List ℕ) (phase : keeper.phase �
   parts : words ≡ words_from newest 17 keeper.written ++ (here ++ behind)
   parts =
       let count : keeper.cells ≡ keeper.written + (length keeper.chunk + more) = omega (arith, fits.in_order.within) in
-      ap (words_from newest 17) count ∙ words_from-append newest 17 keeper.written (length keeper.chunk + more) ∙ ap (λ (l : List ℕ). words_from newest 17 keeper.written ++ l) (words_from-append newest place (length keeper.chunk) more)
+      ap (words_from newest 17) count ∙ words_from-append newest 17 keeper.written (length keeper.chunk + more) ∙ ap
+      (λ (l : List ℕ). words_from newest 17 keeper.written ++ l) (words_from-append newest place (length keeper.chunk) more)
 
   old_words : drop keeper.written (newest_words keeper newest) ≡ here ++ behind
   old_words = rw (order.2) (ap (drop keeper.written) parts ∙ drop_at (words_from newest 17 keeper.written) (here ++ behind) keeper.written (length-words_from newest 17 keeper.written))
@@ -145,7 +148,8 @@ module _ (keeper : Progress) (target newest : List ℕ) (phase : keeper.phase �
   pass : list_all is_word here ≡ true
   pass =
       let all = (newest_file keeper target newest fits order.2).1 in
-      let first = both (list_all is_word (words_from newest 17 keeper.written)) (list_all is_word (here ++ behind)) (sym (list_all-append is_word (words_from newest 17 keeper.written) (here ++ behind)) ∙ ap (list_all is_word) (sym parts) ∙ all) in
+      let first = both (list_all is_word (words_from newest 17 keeper.written)) (list_all is_word (here ++ behind))
+      (sym (list_all-append is_word (words_from newest 17 keeper.written) (here ++ behind)) ∙ ap (list_all is_word) (sym parts) ∙ all) in
       (both (list_all is_word here) (list_all is_word behind) (sym (list_all-append is_word here behind) ∙ first.1)).0
 
   pub read_fits : Fits (read keeper (read_cells keeper newest)) target newest

@@ -51,7 +51,8 @@ drop_nil : (n : ℕ) → drop {A = ℕ} n [] ≡ []
 drop_nil zero = refl
 drop_nil (suc n) = refl
 
-filled_own : (keeper : Progress) (newest : List ℕ) → (is_some keeper.newest ≡ true → has_same keeper.chunk ≡ false) → filled_words keeper.chunk (drop keeper.written (newest_words keeper newest)) ≡ filled_words keeper.chunk []
+filled_own : (keeper : Progress) (newest : List ℕ) → (is_some keeper.newest ≡ true → has_same keeper.chunk ≡ false)
+    → filled_words keeper.chunk (drop keeper.written (newest_words keeper newest)) ≡ filled_words keeper.chunk []
 filled_own keeper newest read = elim (cases_Bool (is_some keeper.newest)) [
   | inl some ↦ same_words keeper.chunk (drop keeper.written (newest_words keeper newest)) [] (read some)
   | inr none ↦ rw (none, drop_nil keeper.written) refl
@@ -150,7 +151,8 @@ module _ (keeper : Progress) (old newest : List ℕ) (phase : keeper.phase ≡ W
       (words_before torn old at 17 keeper.written is.before (omega arith) (omega (arith, body.room, is.no_shorter)) (omega (arith, body.room)))
 
   -- whole or not, it leaves the gate
-  module _ (file : List ℕ) (n : ℕ) (before after_write : List ℕ → Type 0) (follows : Follows (Torn at n) before after_write) (read : Image) (stood : TargetEndures keeper.phase keeper read old newest before) where
+  module _ (file : List ℕ) (n : ℕ) (before after_write : List ℕ → Type 0) (follows : Follows (Torn at n) before after_write)
+      (read : Image) (stood : TargetEndures keeper.phase keeper read old newest before) where
     still_shut : AllShut after_write
     still_shut = follows_shut at n before after_write (omega arith) follows (subst (λ (p : Phase). TargetEndures p keeper read old newest before) phase stood)
 

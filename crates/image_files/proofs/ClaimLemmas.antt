@@ -46,7 +46,8 @@ module _ (keeper : Progress) (before : Image) (target newest left : List ℕ) (o
 -- ---- both files
 
 -- in a round of a keeper with an image the newest file has it, and the other one is the target
-module _ (keeper : Progress) (images : Images) (target newest : List ℕ) (target_outcomes newest_outcomes : List ℕ → Type 0) (stands : StandsFor keeper (Newest images) target newest target_outcomes newest_outcomes) where
+module _ (keeper : Progress) (images : Images) (target newest : List ℕ) (target_outcomes newest_outcomes : List ℕ → Type 0)
+    (stands : StandsFor keeper (Newest images) target newest target_outcomes newest_outcomes) where
   newest_has : (left : List ℕ) → newest_outcomes left → image_of left ≡ Image.Open images.tick images.words
   newest_has left outcome =
       let is = stands.held.0 in
@@ -104,7 +105,8 @@ module _ (cells : ℕ) (some : 1 ≤ cells) (most : cells ≤ CELLS_MAX) where
         let same : words ≡ words_from newest 17 cells = sym (open_file newest tick words is).words_are ∙ ap (words_from newest 17) count in
         record { in_order = fresh_order (Some (slot, tick)) target_shut newest_shut; image = is ∙ ap (Image.Open tick) same; newest_shut = newest_reports; of_target = target_reports; chunk = refl }
 
-  pub made_fits : (newest : Option (Slot × ℕ)) (shut_a shut_b : Bool) (image_a image_b : List ℕ) → HoldsNewest cells newest image_a image_b → (shut_a ≡ true → HasShutGate image_a) → (shut_b ≡ true → HasShutGate image_b)
+  pub made_fits : (newest : Option (Slot × ℕ)) (shut_a shut_b : Bool) (image_a image_b : List ℕ)
+      → HoldsNewest cells newest image_a image_b → (shut_a ≡ true → HasShutGate image_a) → (shut_b ≡ true → HasShutGate image_b)
       → FitsFiles (made_keeper cells newest shut_a shut_b) image_a image_b
   made_fits None shut_a shut_b image_a image_b holds a_reports b_reports = fits_without shut_a shut_b image_a image_b a_reports b_reports
   made_fits (Some (A, tick)) shut_a shut_b image_a image_b holds a_reports b_reports = fits_with shut_b shut_a image_b image_a b_reports a_reports A tick holds.0 holds.1 holds.2
@@ -136,20 +138,25 @@ module _ (cells : ℕ) (some : 1 ≤ cells) (most : cells ≤ CELLS_MAX) where
     abbrev MadeStands : ImageFiles → Option (Slot × ℕ) → Type 0
     MadeStands images newest = Stands (made_keeper cells newest shut_a shut_b) images image_a image_b outcomes_a outcomes_b
 
-    made_at : (slot : Slot) (tick : ℕ) (words : List ℕ) (before : Image) (round : Option Round) → round ≡ None → length words ≡ cells → image_of (of_slot slot image_a image_b) ≡ Image.Open tick words → image_of (of_slot slot image_b image_a) ≡ before
+    made_at : (slot : Slot) (tick : ℕ) (words : List ℕ) (before : Image) (round : Option Round) → round ≡ None
+        → length words ≡ cells → image_of (of_slot slot image_a image_b) ≡ Image.Open tick words → image_of (of_slot slot image_b image_a) ≡ before
         → MadeStands (Newest (record { slot = slot; tick = tick; words = words; before = before; round = round })) (Some (slot, tick))
-    made_at A tick words before round = made_with shut_b shut_a image_b image_a outcomes_b outcomes_a only_b only_a b_reports a_reports (record { slot = A; tick = tick; words = words; before = before; round = round })
-    made_at B tick words before round = made_with shut_a shut_b image_a image_b outcomes_a outcomes_b only_a only_b a_reports b_reports (record { slot = B; tick = tick; words = words; before = before; round = round })
+    made_at A tick words before round =
+        made_with shut_b shut_a image_b image_a outcomes_b outcomes_a only_b only_a b_reports a_reports (record { slot = A; tick = tick; words = words; before = before; round = round })
+    made_at B tick words before round =
+        made_with shut_a shut_b image_a image_b outcomes_a outcomes_b only_a only_b a_reports b_reports (record { slot = B; tick = tick; words = words; before = before; round = round })
 
     pub made_stands : (newest : Option (Slot × ℕ)) (images : ImageFiles) → IsReported cells newest images image_a image_b → MadeStands images newest
     made_stands newest (NoneYet images) reported =
-        subst (MadeStands (NoneYet images)) (sym reported.0) (made_without shut_a shut_b image_a image_b outcomes_a outcomes_b only_a only_b a_reports b_reports images reported.1 reported.2 reported.3)
+        subst (MadeStands (NoneYet images)) (sym reported.0)
+        (made_without shut_a shut_b image_a image_b outcomes_a outcomes_b only_a only_b a_reports b_reports images reported.1 reported.2 reported.3)
     made_stands newest (Newest images) reported =
         subst (MadeStands (Newest images)) (sym reported.0) (made_at images.slot images.tick images.words images.before images.round reported.1 reported.2 reported.3 reported.4)
 
 -- ---- between two rounds
 
-in_slots : (slot : Slot) (a b : List ℕ) (outcomes_a outcomes_b : List ℕ → Type 0) → Only (of_slot slot a b) (in_slot slot outcomes_a outcomes_b) → Only (of_slot slot b a) (beside_slot slot outcomes_a outcomes_b)
+in_slots : (slot : Slot) (a b : List ℕ) (outcomes_a outcomes_b : List ℕ → Type 0)
+    → Only (of_slot slot a b) (in_slot slot outcomes_a outcomes_b) → Only (of_slot slot b a) (beside_slot slot outcomes_a outcomes_b)
     → Only a outcomes_a × Only b outcomes_b
 in_slots A a b outcomes_a outcomes_b one other = (one, other)
 in_slots B a b outcomes_a outcomes_b one other = (other, one)

@@ -1,5 +1,7 @@
 -- The bytes of an image, and their reading.
-use Rattle.std.proofs.Common.{◌≡◌, ℕ, zero, suc, ◌+◌, ◌*◌, ◌^◌, ◌<◌, ◌≤◌, List, [], ◌∷◌, ◌++◌, Bool, true, false, Option, Some, None, ◌&&◌, cond, length, get_or, take, drop, refl, sym, ◌∙◌, ap, subst, arith, length-append, length-drop}
+use Rattle.std.proofs.Common.{◌≡◌, ℕ, zero, suc, ◌+◌, ◌*◌, ◌^◌, ◌<◌, ◌≤◌, List, [], ◌∷◌, ◌++◌, Bool, true, false, Option, Some}
+use Rattle.std.proofs.Common.{None, ◌&&◌, cond, length, get_or, take, drop, refl, sym, ◌∙◌, ap, subst, arith, length-append}
+use Rattle.std.proofs.Common.{length-drop}
 use Rattle.std.proofs.lemmas.List.{append_assoc, take-append-drop, drop-drop, drop_more, get_or-drop}
 use Rattle.std.proofs.Math.Seq.{take-add}
 use Rattle.std.proofs.lemmas.List.Sums.{AllPass-from_list_all, list_all-from_AllPass}
@@ -47,7 +49,8 @@ words_written front [] rest place at pass = refl
 words_written front (w ∷ words) rest place at pass =
     let file = front ++ (flat_map (number_bytes 8) (w ∷ words) ++ rest) in
     let parts = both (is_word w) (list_all is_word words) pass in
-    let first : file ≡ front ++ (number_bytes 8 w ++ (flat_map (number_bytes 8) words ++ rest)) = ap (λ (l : List ℕ). front ++ l) (append_assoc (number_bytes 8 w) (flat_map (number_bytes 8) words) rest) in
+    let first : file ≡ front ++ (number_bytes 8 w ++ (flat_map (number_bytes 8) words ++ rest)) = ap
+    (λ (l : List ℕ). front ++ l) (append_assoc (number_bytes 8 w) (flat_map (number_bytes 8) words) rest) in
     let second : file ≡ (front ++ number_bytes 8 w) ++ (flat_map (number_bytes 8) words ++ rest) = first ∙ sym (append_assoc front (number_bytes 8 w) (flat_map (number_bytes 8) words ++ rest)) in
     let head : number_at file place ≡ w = ap (λ (l : List ℕ). number_at l place) first ∙ number_written front (flat_map (number_bytes 8) words ++ rest) place w at (word_fits w parts.0) in
     let tail : words_from file (place + 8) (length words) ≡ words = ap (λ (l : List ℕ). words_from l (place + 8) (length words)) second
@@ -79,7 +82,8 @@ whole_reads file tick words gate cells_is tick_is words_are room small pass =
     let whole : is_whole file (length words) tick ≡ true = rw (parts.0, parts.1, words_are, pass) refl in
     rw (gate_open, cells_is, tick_is, whole, words_are) refl
 
-pub image_read : (format : Format) (tick : ℕ) (words rest : List ℕ) → tick ≤ 1000000000000000000 → IsWorld words → length words ≤ cells_most format → image_of (image_bytes format tick words ++ rest) ≡ Image.Open tick words
+pub image_read : (format : Format) (tick : ℕ) (words rest : List ℕ) → tick ≤ 1000000000000000000 → IsWorld words
+    → length words ≤ cells_most format → image_of (image_bytes format tick words ++ rest) ≡ Image.Open tick words
 image_read format tick words rest small world most =
     let n = length words in
     let m = marked_of format n in
@@ -95,7 +99,8 @@ image_read format tick words rest small world most =
     omega (arith, length-append ((1 ∷ []) ++ number_bytes 8 m) (number_bytes 8 tick), length-append (1 ∷ []) (number_bytes 8 m), length-number_bytes 8 m, length-number_bytes 8 tick) in
     let marked_is : number_at file 1 ≡ m = ap (λ (l : List ℕ). number_at l 1) first ∙ number_written (1 ∷ []) (number_bytes 8 tick ++ (tail ++ rest)) 1 m refl (marked_fits format n world.most) in
     let cells_is : cells_in file ≡ Some n = cells_found format (number_at file 1) n marked_is world.some most in
-    let tick_is : tick_in file ≡ tick = ap tick_in second ∙ number_written ((1 ∷ []) ++ number_bytes 8 m) (tail ++ rest) 9 tick (omega (arith, length-append (1 ∷ []) (number_bytes 8 m), length-number_bytes 8 m)) (omega arith) in
+    let tick_is : tick_in file ≡ tick = ap tick_in second ∙ number_written ((1 ∷ []) ++ number_bytes 8 m) (tail ++ rest) 9 tick
+    (omega (arith, length-append (1 ∷ []) (number_bytes 8 m), length-number_bytes 8 m)) (omega arith) in
     let words_are : words_from file 17 n ≡ words = ap (λ (l : List ℕ). words_from l 17 n) third ∙ words_written (((1 ∷ []) ++ number_bytes 8 m) ++ number_bytes 8 tick) words rest 17 front pass in
     let long : length file ≡ 17 + length (tail ++ rest) = ap length third ∙ omega (arith, length-append (((1 ∷ []) ++ number_bytes 8 m) ++ number_bytes 8 tick) (tail ++ rest), front) in
     let room : 17 + 8 * n ≤ length file = omega (arith, long, length-append tail rest, length-words words) in
@@ -212,7 +217,8 @@ image_spelled spelled file tick words are_bytes is =
     let second : drop 9 file ≡ time ++ drop 17 file = split 9 8 time (sym (number_spelled spelled file 9 are_bytes (omega (arith, is.room))) ∙ ap (number_bytes 8) is.tick_is) in
     let third : drop 17 file ≡ body ++ rest = split 17 (8 * n) body (sym (words_spelled spelled file 17 n are_bytes is.room) ∙ ap (flat_map (number_bytes 8)) is.words_are) in
     gate
-    ∙ ap (λ (l : List ℕ). 1 ∷ l) (first ∙ ap (λ (l : List ℕ). cells ++ l) (second ∙ ap (λ (l : List ℕ). time ++ l) third) ∙ sym (append_assoc cells time (body ++ rest)) ∙ sym (append_assoc (cells ++ time) body rest))
+    ∙ ap (λ (l : List ℕ). 1 ∷ l)
+    (first ∙ ap (λ (l : List ℕ). cells ++ l) (second ∙ ap (λ (l : List ℕ). time ++ l) third) ∙ sym (append_assoc cells time (body ++ rest)) ∙ sym (append_assoc (cells ++ time) body rest))
   where
     split : (place n : ℕ) (part : List ℕ) → take n (drop place file) ≡ part → drop place file ≡ part ++ drop (place + n) file
     split place n part same =

@@ -20,11 +20,14 @@ use Rattle.image_files.proofs.TakeLemmas.{length-done}
 use Rattle.image_files.specs.Files.{Stands, StandsFor, IsHeld, before_in}
 
 -- the facts of a step on a keeper, its taker, and the contents and outcomes of its two files
-pub record Stepped {S : Type 0} (took : S → Option Taken → S → Type 0) (honest : Bool) (given : ImageAnswer) (old new : Progress) (from to : S) (target target' newest newest' : List ℕ) (left left' beside beside' : List ℕ → Type 0) : Type 0 where
+pub record Stepped {S : Type 0} (took : S → Option Taken → S → Type 0) (honest : Bool) (given : ImageAnswer) (old new : Progress)
+    (from to : S) (target target' newest newest' : List ℕ) (left left' beside beside' : List ℕ → Type 0) : Type 0 where
   pub fits : IsTrue honest → IfOpened given (Fits new newest' target') (Fits new target' newest')
-  pub endures : IsTrue honest → (before : Image) → Endures old before target newest left beside → IfOpened given (Endures new (image_of newest') newest' target' beside' left') (Endures new before target' newest' left' beside')
+  pub endures : IsTrue honest → (before : Image) → Endures old before target newest left beside
+      → IfOpened given (Endures new (image_of newest') newest' target' beside' left') (Endures new before target' newest' left' beside')
   pub opened_image : IsTrue honest → OnOpened given (IsOpenedImage old (done old target newest) target' left')
-  pub took_cell : old.phase ≡ Taking → (cell : Option Taken) × took from cell to × IfNone cell (to ≡ from) × TookCell cell old new × (IsTrue honest → TookWord cell old newest (done old target newest) (done new target' newest'))
+  pub took_cell : old.phase ≡ Taking → (cell : Option Taken) × took from cell to × IfNone cell (to ≡ from) × TookCell cell old new
+      × (IsTrue honest → TookWord cell old newest (done old target newest) (done new target' newest'))
   pub not_took : (old.phase ≡ Taking → ⊥) → to ≡ from
   pub words : (old.phase ≡ Taking → ⊥) → IsTrue honest → IfOpened given ⊤ (done new target' newest' ≡ done old target newest)
   pub goes_on : OnWorking given (new.phase ≡ Idle → ⊥)
@@ -77,7 +80,8 @@ words_on : (old new : Progress) (newest newest' : List ℕ) → new.newest ≡ o
 words_on old new newest newest' same cells stays = rw (same, cells, stays) refl
 
 -- the images that are held stay if the round so far stays
-held_on : (images : ImageFiles) (old new : Progress) (target target' newest newest' : List ℕ) → new.newest ≡ old.newest → new.cells ≡ old.cells → newest' ≡ newest → round_of new target' newest' ≡ round_of old target newest
+held_on : (images : ImageFiles) (old new : Progress) (target target' newest newest' : List ℕ) → new.newest ≡ old.newest
+    → new.cells ≡ old.cells → newest' ≡ newest → round_of new target' newest' ≡ round_of old target newest
     → IsHeld images old target newest → IsHeld images new target' newest'
 held_on (NoneYet images) old new target target' newest newest' same cells stays round held = (same ∙ held.0, ap image_of stays ∙ held.1, held.2 ∙ sym round)
 held_on (Newest images) old new target target' newest newest' same cells stays round held =
@@ -91,14 +95,16 @@ before_taken cell (Newest images) = refl
 idle_round : (keeper : Progress) (target newest : List ℕ) → keeper.phase ≡ Idle → round_of keeper target newest ≡ None
 idle_round keeper target newest is = ap (λ (p : Phase). round_in_phase p (round_so_far keeper target newest)) is
 
-module _ {S : Type 0} (took : S → Option Taken → S → Type 0) (honest : Bool) (sure : IsTrue honest) (old new : Progress) (from to : S) (target target' newest newest' : List ℕ) (left left' beside beside' : List ℕ → Type 0)
+module _ {S : Type 0} (took : S → Option Taken → S → Type 0) (honest : Bool) (sure : IsTrue honest) (old new : Progress)
+    (from to : S) (target target' newest newest' : List ℕ) (left left' beside beside' : List ℕ → Type 0)
     (images : ImageFiles) (stands : StandsFor old images target newest left beside) where
   abbrev Step : ImageAnswer → Type 0
   Step given = Stepped took honest given old new from to target target' newest newest' left left' beside beside'
 
   -- the facts that a step with this answer keeps
   abbrev Kept : ImageAnswer → Type 0
-  Kept given = (next : ImageFiles) × IfOpened given (StandsFor new next newest' target' beside' left') (StandsFor new next target' newest' left' beside') × StepsImages took old.cells images given next from to
+  Kept given =
+      (next : ImageFiles) × IfOpened given (StandsFor new next newest' target' beside' left') (StandsFor new next target' newest' left' beside') × StepsImages took old.cells images given next from to
 
   abbrev round : Round
   round = round_so_far old target newest
@@ -119,7 +125,11 @@ module _ {S : Type 0} (took : S → Option Taken → S → Type 0) (honest : Boo
       let no_round : round_of new target' newest' ≡ round_of old target newest =
       idle_round new target' newest' (ap (λ (k : Progress). k.phase) same ∙ is) ∙ sym (idle_round old target newest is) in (
         images,
-        record { fits = step.fits sure; endures = step.endures sure (before_in images) stands.endures; held = held_on images old new target target' newest newest' step.ended.1 step.cells (step.stays sure).0 no_round stands.held },
+        record {
+          fits = step.fits sure;
+          endures = step.endures sure (before_in images) stands.endures;
+          held = held_on images old new target target' newest newest' step.ended.1 step.cells (step.stays sure).0 no_round stands.held;
+        },
         (held_round images old target newest stands.held ∙ idle_round old target newest is, refl, step.not_took (λ taking. cc (is, taking))),
       )
 
@@ -156,7 +166,8 @@ module _ {S : Type 0} (took : S → Option Taken → S → Type 0) (honest : Boo
       by_images (Newest images) held = (same ∙ held.0, held.1 ∙ sym (words_on old new newest newest' same cells stays), round_after images.words held.1 images.round held.2)
 
   -- the image of the round is opened
-  opened_stands : (tick : ℕ) → new ≡ opened_keeper old → IsOpenedImage old (done old target newest) target' left' tick → newest' ≡ newest → Fits new newest' target' → Endures new (image_of newest') newest' target' beside' left'
+  opened_stands : (tick : ℕ) → new ≡ opened_keeper old → IsOpenedImage old (done old target newest) target' left' tick
+      → newest' ≡ newest → Fits new newest' target' → Endures new (image_of newest') newest' target' beside' left'
       → (images : ImageFiles) → Fits old target newest → IsHeld images old target newest → StandsFor new (with_opened round images) newest' target' beside' left'
   opened_stands tick is image stays fits endures images old_fits held = by_images images held
     where
@@ -245,7 +256,8 @@ module _ {S : Type 0} (took : S → Option Taken → S → Type 0) (honest : Boo
 
 -- ---- by the files' names
 
-module _ {S : Type 0} (took : S → Option Taken → S → Type 0) (honest : Bool) (sure : IsTrue honest) (given : ImageAnswer) (old new : Progress) (from to : S) (a a' b b' : List ℕ) (left_a left_a' left_b left_b' : List ℕ → Type 0) (images : ImageFiles) where
+module _ {S : Type 0} (took : S → Option Taken → S → Type 0) (honest : Bool) (sure : IsTrue honest) (given : ImageAnswer)
+    (old new : Progress) (from to : S) (a a' b b' : List ℕ) (left_a left_a' left_b left_b' : List ℕ → Type 0) (images : ImageFiles) where
   -- the facts that a step by the files' names keeps
   abbrev FilesKept : Type 0
   FilesKept = (next : ImageFiles) × Stands new next a' b' left_a' left_b' × StepsImages took old.cells images given next from to

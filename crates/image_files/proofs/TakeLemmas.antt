@@ -52,7 +52,8 @@ module _ (keeper : Progress) (cell : Taken) (phase : keeper.phase ≡ Taking) (o
   count = length-append keeper.chunk (cell ∷ [])
 
   -- the three phases that may follow
-  by_cases : (P : Phase → Type 0) → (PhaseFits Taking (took Taking) → P Taking) → (PhaseFits Reading (took Reading) → P Reading) → (PhaseFits Writing (took Writing) → P Writing) → P (after_take keeper chunk)
+  by_cases : (P : Phase → Type 0) → (PhaseFits Taking (took Taking) → P Taking) → (PhaseFits Reading (took Reading) → P Reading)
+      → (PhaseFits Writing (took Writing) → P Writing) → P (after_take keeper chunk)
   by_cases P more read write = elim (cases_Bool (nat_lt (length chunk) (chunk_size keeper))) [
     | inl less ↦ let below : length chunk < chunk_size keeper = grind (arith, nat_tests) in rw less (more below)
     | inr full ↦
@@ -84,7 +85,8 @@ module _ (keeper : Progress) (cell : Taken) (phase : keeper.phase ≡ Taking) (o
         (λ by_phase. taken Reading by_phase (part.0, body Reading))
         (λ by_phase. taken Writing by_phase (part.0, body Writing))
 
-    took_endures : (before : Image) (outcomes : List ℕ → Type 0) → TargetEndures keeper.phase keeper before target newest outcomes → TargetEndures (after_take keeper chunk) (with_taken_cell cell keeper) before target newest outcomes
+    took_endures : (before : Image) (outcomes : List ℕ → Type 0) → TargetEndures keeper.phase keeper before target newest outcomes
+        → TargetEndures (after_take keeper chunk) (with_taken_cell cell keeper) before target newest outcomes
     took_endures before outcomes stood =
         let shut = subst (λ (p : Phase). TargetEndures p keeper before target newest outcomes) phase stood in
         by_cases (λ next. TargetEndures next (took next) before target newest outcomes) (λ b. shut) (λ b. shut) (λ b. shut)
@@ -107,12 +109,14 @@ take_fits None old new target newest phase same fits = subst (λ (k : Progress).
 take_fits (Some cell) old new target newest phase took fits =
     subst (λ (k : Progress). Fits k target newest) (sym took.1) (took_fits old cell phase fits.in_order target newest took.0 fits)
 
-pub take_word : (cell : Option Taken) (old new : Progress) (target newest : List ℕ) → old.phase ≡ Taking → IsInOrder old → TookCell cell old new → TookWord cell old newest (done old target newest) (done new target newest)
+pub take_word : (cell : Option Taken) (old new : Progress) (target newest : List ℕ) → old.phase ≡ Taking → IsInOrder old
+    → TookCell cell old new → TookWord cell old newest (done old target newest) (done new target newest)
 take_word None old new target newest phase order same = ap (λ (k : Progress). done k target newest) same
 take_word (Some cell) old new target newest phase order took =
     ap (λ (k : Progress). done k target newest) took.1 ∙ took_word old cell phase order target newest
 
-pub take_endures : (cell : Option Taken) (old new : Progress) (before : Image) (target newest : List ℕ) (target_outcomes newest_outcomes : List ℕ → Type 0) → old.phase ≡ Taking → IsInOrder old → TookCell cell old new
+pub take_endures : (cell : Option Taken) (old new : Progress) (before : Image) (target newest : List ℕ)
+    (target_outcomes newest_outcomes : List ℕ → Type 0) → old.phase ≡ Taking → IsInOrder old → TookCell cell old new
     → Endures old before target newest target_outcomes newest_outcomes → Endures new before target newest target_outcomes newest_outcomes
 take_endures None old new before target newest target_outcomes newest_outcomes phase order same endures =
     subst (λ (k : Progress). Endures k before target newest target_outcomes newest_outcomes) (sym same) endures

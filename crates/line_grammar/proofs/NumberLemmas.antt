@@ -1,5 +1,7 @@
 use Rattle.std.specs.Fmt.{signed_decimal}
-use Rattle.std.proofs.Common.{rules, arith, refl, sym, ◌∙◌, ◌≡◌, ◌≢◌, ℕ, zero, suc, ◌+◌, ◌-◌, ◌*◌, ◌<◌, ◌≤◌, ◌^◌, List, [], ◌∷◌, length, get_or, slice_index, true, decimal, Ok, Err, Result, inl, inr, ◌⊎◌, lit<, lit≤, ℤ, pos, negsuc, unsigned_abs, ◌≤ℤ◌}
+use Rattle.std.proofs.Common.{rules, arith, refl, sym, ◌∙◌, ◌≡◌, ◌≢◌, ℕ, zero, suc, ◌+◌, ◌-◌, ◌*◌, ◌<◌, ◌≤◌, ◌^◌, List, [], ◌∷◌}
+use Rattle.std.proofs.Common.{length, get_or, slice_index, true, decimal, Ok, Err, Result, inl, inr, ◌⊎◌, lit<, lit≤, ℤ, pos}
+use Rattle.std.proofs.Common.{negsuc, unsigned_abs, ◌≤ℤ◌}
 use Rattle.std.specs.Str.{all_ascii_digits, IsUtf8}
 use Rattle.std.specs.Str.Parse.{ParsesUnsigned}
 use Rattle.std.specs.Result.{result_ok}

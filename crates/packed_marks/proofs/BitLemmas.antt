@@ -1,7 +1,10 @@
 -- The bits of a word, and the marks in words, after each change.
-use Rattle.std.proofs.Common.{zero, suc, ◌≡◌, ◌≢◌, ℕ, ◌-◌, ◌*◌, ◌^◌, ◌<◌, ◌≤◌, ◌/◌, ◌%◌, eqb, not, List, ◌++◌, length, take, replicate, get_or, set, min, sym, refl, ap, ◌∙◌, arith, true, false, eq-eqb, bit_and, bit_or, w64, get_or-set_other, get_or-set_same, shl_exact, one-mul, lit<}
+use Rattle.std.proofs.Common.{zero, suc, ◌≡◌, ◌≢◌, ℕ, ◌-◌, ◌*◌, ◌^◌, ◌<◌, ◌≤◌, ◌/◌, ◌%◌, eqb, not, List, ◌++◌, length, take}
+use Rattle.std.proofs.Common.{replicate, get_or, set, min, sym, refl, ap, ◌∙◌, arith, true, false, eq-eqb, bit_and, bit_or, w64}
+use Rattle.std.proofs.Common.{get_or-set_other, get_or-set_same, shl_exact, one-mul, lit<}
 use Rattle.std.proofs.lemmas.List.{get_or-replicate}
-use Rattle.std.proofs.lemmas.Nat.Bits.{bit_at_set_same, bit_at_set_other, bit_at_clear_same, bit_at_clear_other, bit_at-zero, bit_at_ones, bit_at_ones_above, bit_at_and, bit_at_not, bit_at-lt, shr_and_one}
+use Rattle.std.proofs.lemmas.Nat.Bits.{bit_at_set_same, bit_at_set_other, bit_at_clear_same, bit_at_clear_other, bit_at-zero}
+use Rattle.std.proofs.lemmas.Nat.Bits.{bit_at_ones, bit_at_ones_above, bit_at_and, bit_at_not, bit_at-lt, shr_and_one}
 use Rattle.std.proofs.Math.Seq.{take-append_seam}
 use Rattle.std.specs.Int.{bit_at, bit_not}
 use mathlib.Core.Logic.{dite}

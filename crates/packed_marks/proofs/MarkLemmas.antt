@@ -1,5 +1,6 @@
 -- The list of the marks in words.
-use Rattle.std.proofs.Common.{refl, ◌≡◌, ◌≢◌, ℕ, ◌*◌, ◌<◌, ◌/◌, ◌%◌, Bool, not, List, length, map, replicate, get_or, set, sym, ap, ◌∙◌, arith, false, zero-add, length-set, get_or-set_other, get_or-set_same}
+use Rattle.std.proofs.Common.{refl, ◌≡◌, ◌≢◌, ℕ, ◌*◌, ◌<◌, ◌/◌, ◌%◌, Bool, not, List, length, map, replicate, get_or, set, sym}
+use Rattle.std.proofs.Common.{ap, ◌∙◌, arith, false, zero-add, length-set, get_or-set_other, get_or-set_same}
 use Rattle.std.proofs.lemmas.List.{get_or-replicate, length-replicate, length-map, get_or-map}
 use Rattle.std.proofs.lemmas.List.FromFn.{length-map-range_with_len, get_or-map-range_with_len, fill_by_all}
 use mathlib.Core.Logic.{dite}

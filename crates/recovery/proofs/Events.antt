@@ -79,7 +79,8 @@ logs_later ticks acknowledged newest newer logs le f = record {
 }
 
 -- an opened image acknowledges its tick
-pub logs_opened : (ticks : List (List Action)) (acknowledged newest newer : ℕ) (logs : Logs) → newest ≤ newer → LogsFollow ticks acknowledged newest logs → LogsFollow ticks (max acknowledged newer) newer logs
+pub logs_opened : (ticks : List (List Action)) (acknowledged newest newer : ℕ) (logs : Logs) → newest ≤ newer
+    → LogsFollow ticks acknowledged newest logs → LogsFollow ticks (max acknowledged newer) newer logs
 logs_opened ticks acknowledged newest newer logs le f =
     let after = logs_later ticks acknowledged newest newer logs le f in
     record {
@@ -106,7 +107,8 @@ first_switch taken (records.Tick tick ∷ queue) n = begins_lower taken (taken +
 first_switch taken (records.Switch tick ∷ queue) n = omega (arith, n.0)
 
 -- if a tick comes first, the segment has all ticks before it
-pub group_at : (logs : Logs) (taken newest : ℕ) (group : List (List Action)) (queue left : List Record) → StandBefore group queue left → 1 ≤ length group → HasUpTo logs taken newest queue → logs.base + length (logs.kept ++ logs.pending) ≡ taken
+pub group_at : (logs : Logs) (taken newest : ℕ) (group : List (List Action)) (queue left : List Record)
+    → StandBefore group queue left → 1 ≤ length group → HasUpTo logs taken newest queue → logs.base + length (logs.kept ++ logs.pending) ≡ taken
 group_at logs taken newest [] queue left stand some h = absurd (omega (arith, some))
 group_at logs taken newest (tick ∷ group) [] left stand some h = absurd stand
 group_at logs taken newest (tick ∷ group) (records.Tick first ∷ queue) left stand some (inl e) = e
@@ -133,7 +135,8 @@ group_ticks (tick ∷ group) (records.Tick first ∷ queue) left stand = ap (λ 
 group_ticks (actions ∷ group) (records.Switch tick ∷ queue) left stand = absurd stand
 
 -- the group follows the ticks of the segment
-pub group_follows : (ticks : List (List Action)) (base : ℕ) (kept group rest : List (List Action)) → FollowsFrom ticks base kept → drop (base + length kept) ticks ≡ group ++ rest → FollowsFrom ticks base (kept ++ group)
+pub group_follows : (ticks : List (List Action)) (base : ℕ) (kept group rest : List (List Action)) → FollowsFrom ticks base kept
+    → drop (base + length kept) ticks ≡ group ++ rest → FollowsFrom ticks base (kept ++ group)
 group_follows ticks base kept group more f rest =
     let sum : length (kept ++ group) ≡ length kept + length group = length-append kept group in
     let next : FollowsFrom ticks (base + length kept) group = record {
@@ -157,7 +160,8 @@ bases_done (OpenSegment first ticks) base mark newest later [] (Some round) e = 
 bases_done (OpenSegment first ticks) base mark newest later (one ∷ earlier) round e = (earlier, (let rest : base ∷ mark ∷ later ≡ earlier ++ newest ∷ round_tick round = cc in rest))
 
 -- the round in work is opened
-pub opened_follows : (first : List ℕ) (ticks : List (List Action)) (images : Images) (round : Round) → ImagesFollow first ticks images → IsRoundOf first ticks images.tick (Some round) → length round.taken ≡ length first → ImagesFollow first ticks (with_round_opened images round)
+pub opened_follows : (first : List ℕ) (ticks : List (List Action)) (images : Images) (round : Round)
+    → ImagesFollow first ticks images → IsRoundOf first ticks images.tick (Some round) → length round.taken ≡ length first → ImagesFollow first ticks (with_round_opened images round)
 opened_follows first ticks images round f r all =
     let later : images.tick ≤ round.tick = omega (arith, r.0) in
     record { newest = r.1 all; before = (later, f.newest); round = tt }
@@ -186,7 +190,8 @@ rise_more low newest mark (tick ∷ ticks) (one ∷ front) e lt rise =
     (rise.0, rise_more tick newest mark ticks front rest lt rise.1)
 
 -- the bases still rise with a mark that is greater than the newest image's tick
-pub rising_more : (before : Segment) (base newest mark : ℕ) (ticks earlier : List ℕ) → base_in before ++ base ∷ ticks ≡ earlier ++ newest ∷ [] → newest < mark → RiseFrom base ticks → RiseFrom base (ticks ++ mark ∷ [])
+pub rising_more : (before : Segment) (base newest mark : ℕ) (ticks earlier : List ℕ)
+    → base_in before ++ base ∷ ticks ≡ earlier ++ newest ∷ [] → newest < mark → RiseFrom base ticks → RiseFrom base (ticks ++ mark ∷ [])
 rising_more ClosedSegment base newest mark ticks earlier e lt rise = rise_more base newest mark ticks earlier e lt rise
 rising_more MalformedSegment base newest mark ticks earlier e lt rise = rise_more base newest mark ticks earlier e lt rise
 rising_more (OpenSegment first some) base newest mark ticks [] e lt rise = absurd (omega (arith, ap length e))
@@ -203,7 +208,8 @@ mark_numbered_in taken mark [] e n = (omega arith, tt)
 mark_numbered_in taken mark (records.Tick tick ∷ queue) e n = mark_numbered_in (taken + 1) mark queue (omega arith) n
 mark_numbered_in taken mark (records.Switch tick ∷ queue) e n = (n.0, mark_numbered_in taken mark queue e n.1)
 
-pub mark_numbered : (switch : Option ℕ) (taken mark : ℕ) (queue : List Record) → mark ≡ taken + length (ticks_in queue) → AreNumbered taken (with_work switch queue) → AreNumbered taken (with_work switch (queue ++ records.Switch mark ∷ []))
+pub mark_numbered : (switch : Option ℕ) (taken mark : ℕ) (queue : List Record) → mark ≡ taken + length (ticks_in queue)
+    → AreNumbered taken (with_work switch queue) → AreNumbered taken (with_work switch (queue ++ records.Switch mark ∷ []))
 mark_numbered None taken mark queue e n = mark_numbered_in taken mark queue e n
 mark_numbered (Some number) taken mark queue e n = (n.0, mark_numbered_in taken mark queue e n.1)
 
@@ -212,7 +218,8 @@ tick_numbered_in taken tick [] n = tt
 tick_numbered_in taken tick (records.Tick first ∷ queue) n = tick_numbered_in (taken + 1) tick queue n
 tick_numbered_in taken actions (records.Switch tick ∷ queue) n = (n.0, tick_numbered_in taken actions queue n.1)
 
-pub tick_numbered : (switch : Option ℕ) (taken : ℕ) (tick : Actions) (queue : List Record) → AreNumbered taken (with_work switch queue) → AreNumbered taken (with_work switch (queue ++ records.Tick tick ∷ []))
+pub tick_numbered : (switch : Option ℕ) (taken : ℕ) (tick : Actions) (queue : List Record)
+    → AreNumbered taken (with_work switch queue) → AreNumbered taken (with_work switch (queue ++ records.Tick tick ∷ []))
 tick_numbered None taken tick queue n = tick_numbered_in taken tick queue n
 tick_numbered (Some number) taken tick queue n = (n.0, tick_numbered_in taken tick queue n.1)
 
@@ -222,7 +229,8 @@ first_more None (records.Tick tick ∷ queue) added h = absurd h
 first_more None (records.Switch tick ∷ queue) added h = tt
 first_more (Some number) queue added h = tt
 
-pub has_more : (logs : Logs) (taken newest : ℕ) (switch : Option ℕ) (queue : List Record) (added : Record) → HasUpTo logs taken newest (with_work switch queue) → HasUpTo logs taken newest (with_work switch (queue ++ added ∷ []))
+pub has_more : (logs : Logs) (taken newest : ℕ) (switch : Option ℕ) (queue : List Record) (added : Record)
+    → HasUpTo logs taken newest (with_work switch queue) → HasUpTo logs taken newest (with_work switch (queue ++ added ∷ []))
 has_more logs taken newest switch queue added (inl e) = inl e
 has_more logs taken newest switch queue added (inr h) = inr (h.0, h.1, h.2, first_more switch queue added h.3)
 
@@ -250,13 +258,15 @@ bases_behind newest tick (one ∷ below) later (first ∷ earlier) round all le 
     let rest : below ++ tick ∷ later ≡ earlier ++ newest ∷ round = cc in
     bases_behind newest tick below later earlier round all.1 le rest
 
-base_below : (ticks : List (List Action)) (newest base tick : ℕ) (before : Segment) (below : List ℕ) → LeadsTo ticks newest base before → base < tick → AreBelow tick below → AreBelow tick (base_in before ++ base ∷ below)
+base_below : (ticks : List (List Action)) (newest base tick : ℕ) (before : Segment) (below : List ℕ)
+    → LeadsTo ticks newest base before → base < tick → AreBelow tick below → AreBelow tick (base_in before ++ base ∷ below)
 base_below ticks newest base tick ClosedSegment below h lt all = (lt, all)
 base_below ticks newest base tick MalformedSegment below h lt all = absurd h
 base_below ticks newest base tick (OpenSegment earlier first) below h lt all = (omega (arith, h.0), (lt, all))
 
 -- without the switches before this one the last bases are the same
-pub bases_covered : (ticks : List (List Action)) (base newest tick : ℕ) (before : Segment) (switches later earlier round : List ℕ) → LeadsTo ticks newest base before → RiseFrom base (switches ++ tick ∷ later) → tick ≤ newest
+pub bases_covered : (ticks : List (List Action)) (base newest tick : ℕ) (before : Segment) (switches later earlier round : List ℕ)
+    → LeadsTo ticks newest base before → RiseFrom base (switches ++ tick ∷ later) → tick ≤ newest
     → base_in before ++ base ∷ (switches ++ tick ∷ later) ≡ earlier ++ newest ∷ round
     → (front : List ℕ) × (base_in before ++ base ∷ tick ∷ later ≡ front ++ newest ∷ round)
 bases_covered ticks base newest tick before switches later earlier round leads rise le e =
@@ -298,7 +308,10 @@ end_stretch ticks more base some f =
     let len : length (ticks ++ more) ≡ length ticks + length more = length-append ticks more in
     record {
       ended = omega (arith, f.ended);
-      are = f.are ∙ sym (ap (take (length some)) (drop-append-le base ticks more (omega (arith, f.ended))) ∙ take-append-le (length some) (drop base ticks) more (omega (arith, f.ended, length-drop base ticks)));
+      are =
+          f.are
+          ∙ sym
+          (ap (take (length some)) (drop-append-le base ticks more (omega (arith, f.ended))) ∙ take-append-le (length some) (drop base ticks) more (omega (arith, f.ended, length-drop base ticks)));
     }
 
 pub end_world : (first : List ℕ) (ticks more : List (List Action)) (tick : ℕ) (words : List ℕ) → IsWorldAt first ticks tick words → IsWorldAt first (ticks ++ more) tick words
@@ -311,7 +324,12 @@ end_before ticks more newest base MalformedSegment h = h
 end_before ticks more newest base (OpenSegment earlier first) h = (h.0, end_stretch ticks more earlier first h.1, h.2)
 
 pub end_logs : (ticks more : List (List Action)) (acknowledged newest : ℕ) (logs : Logs) → LogsFollow ticks acknowledged newest logs → LogsFollow (ticks ++ more) acknowledged newest logs
-end_logs ticks more acknowledged newest logs f = record { taken = end_stretch ticks more logs.base (logs.kept ++ logs.pending) f.taken; acknowledges = f.acknowledges; before = end_before ticks more newest logs.base logs.before f.before; switch = f.switch }
+end_logs ticks more acknowledged newest logs f = record {
+  taken = end_stretch ticks more logs.base (logs.kept ++ logs.pending) f.taken;
+  acknowledges = f.acknowledges;
+  before = end_before ticks more newest logs.base logs.before f.before;
+  switch = f.switch;
+}
 
 end_held : (first : List ℕ) (ticks more : List (List Action)) (most : ℕ) (image : Image) → HoldsWorld first ticks most image → HoldsWorld first (ticks ++ more) most image
 end_held first ticks more most Closed h = tt
@@ -323,4 +341,8 @@ end_round first ticks more newest None h = tt
 end_round first ticks more newest (Some round) h = (h.0, λ all. end_world first ticks more round.tick round.taken (h.1 all))
 
 pub end_images : (first : List ℕ) (ticks more : List (List Action)) (images : Images) → ImagesFollow first ticks images → ImagesFollow first (ticks ++ more) images
-end_images first ticks more images f = record { newest = end_world first ticks more images.tick images.words f.newest; before = end_held first ticks more images.tick images.before f.before; round = end_round first ticks more images.tick images.round f.round }
+end_images first ticks more images f = record {
+  newest = end_world first ticks more images.tick images.words f.newest;
+  before = end_held first ticks more images.tick images.before f.before;
+  round = end_round first ticks more images.tick images.round f.round;
+}

@@ -15,7 +15,9 @@ use Rattle.action_log.specs.declared.record.Record.{Record}
 use Rattle.action_log.specs.declared.record.Record.TheVariants as records
 use Rattle.world_ticks.specs.Tick.{Actions}
 use Rattle.recovery.proofs.Replay.{words_after-append}
-use Rattle.recovery.proofs.Events.{with_round_begun, with_round_opened, logs_opened, has_later, coming_more, bases_more, rising_more, begin_more, mark_numbered, tick_numbered, has_more, end_images, end_logs, opened_follows}
+use Rattle.recovery.proofs.Events.{with_round_begun, with_round_opened, logs_opened, has_later, coming_more, bases_more}
+use Rattle.recovery.proofs.Events.{rising_more, begin_more, mark_numbered, tick_numbered, has_more, end_images, end_logs}
+use Rattle.recovery.proofs.Events.{opened_follows}
 
 -- ---- a tick ends
 
@@ -29,7 +31,8 @@ no_switch_behind [] tick = refl
 no_switch_behind (records.Tick first ∷ queue) tick = no_switch_behind queue tick
 no_switch_behind (records.Switch mark ∷ queue) tick = ap (λ l. mark ∷ l) (no_switch_behind queue tick)
 
-one_more : (first : List ℕ) (ticks : List (List Action)) (tick : List Action) (last next : List ℕ) → after_ticks first ticks ≡ Ok last → after_actions last tick ≡ Ok next → after_ticks first (ticks ++ tick ∷ []) ≡ Ok next
+one_more : (first : List ℕ) (ticks : List (List Action)) (tick : List Action) (last next : List ℕ)
+    → after_ticks first ticks ≡ Ok last → after_actions last tick ≡ Ok next → after_ticks first (ticks ++ tick ∷ []) ≡ Ok next
 one_more first ticks tick last next all e =
     words_after-append first ticks (tick ∷ [])
     ∙ ap (λ r. and_then r (λ n. words_after n (tick ∷ []))) all
@@ -43,7 +46,13 @@ tick_ends first ticks acknowledged images logs queue k tick next e =
     let m = k.follow_marks in
     let same : switches_in queue ≡ switches_in (queue ++ records.Tick tick ∷ []) = sym (no_switch_behind queue tick) in
     record {
-      worlds = record { some_cells = k.some_cells; last = next; accepted = one_more first ticks tick.list k.last next k.accepted e; images_follow = end_images first ticks (tick.list ∷ []) images k.images_follow };
+      worlds =
+          record {
+            some_cells = k.some_cells;
+            last = next;
+            accepted = one_more first ticks tick.list k.last next k.accepted e;
+            images_follow = end_images first ticks (tick.list ∷ []) images k.images_follow;
+          };
       logs_follow = end_logs ticks (tick.list ∷ []) acknowledged images.tick logs k.logs_follow;
       follow_marks = subst (λ l. FollowMarks l images logs) same m;
       queued = record {
@@ -67,9 +76,11 @@ next_switch [] mark = refl
 next_switch (records.Tick first ∷ queue) mark = next_switch queue mark
 next_switch (records.Switch other ∷ queue) mark = ap (λ l. other ∷ l) (next_switch queue mark)
 
-mark_follows : (later : List ℕ) (images : Images) (logs : Logs) (mark : ℕ) → FollowMarks later images logs → images.round ≡ None → images.tick < mark → logs.base + length (logs.kept ++ logs.pending) ≤ mark → FollowMarks (later ++ mark ∷ []) (with_round_begun images mark) logs
+mark_follows : (later : List ℕ) (images : Images) (logs : Logs) (mark : ℕ) → FollowMarks later images logs → images.round ≡ None
+    → images.tick < mark → logs.base + length (logs.kept ++ logs.pending) ≤ mark → FollowMarks (later ++ mark ∷ []) (with_round_begun images mark) logs
 mark_follows later images logs mark m none above taken =
-    let bases : base_in logs.before ++ logs.base ∷ coming logs.switch later ≡ m.earlier ++ images.tick ∷ [] = subst (λ r. base_in logs.before ++ logs.base ∷ coming logs.switch later ≡ m.earlier ++ images.tick ∷ round_tick r) none m.bases in
+    let bases : base_in logs.before ++ logs.base ∷ coming logs.switch later ≡ m.earlier ++ images.tick ∷ [] = subst
+    (λ r. base_in logs.before ++ logs.base ∷ coming logs.switch later ≡ m.earlier ++ images.tick ∷ round_tick r) none m.bases in
     let more : coming logs.switch later ++ mark ∷ [] ≡ coming logs.switch (later ++ mark ∷ []) = sym (coming_more logs.switch later (mark ∷ [])) in
     record {
       earlier = m.earlier;
@@ -84,9 +95,17 @@ marked : (first : List ℕ) (ticks : List (List Action)) (acknowledged : ℕ) (i
 marked first ticks acknowledged images logs queue k none above =
     let count : length ticks ≡ k.taken + length (ticks_in queue) = omega (arith, ap length k.left, length-drop k.taken ticks, k.some_taken) in
     record {
-      worlds = record { some_cells = k.some_cells; last = k.last; accepted = k.accepted; images_follow = record { newest = k.images_follow.newest; before = k.images_follow.before; round = (above, λ full. absurd (omega (arith, full, k.some_cells))) } };
+      worlds =
+          record {
+            some_cells = k.some_cells;
+            last = k.last;
+            accepted = k.accepted;
+            images_follow = record { newest = k.images_follow.newest; before = k.images_follow.before; round = (above, λ full. absurd (omega (arith, full, k.some_cells))) };
+          };
       logs_follow = k.logs_follow;
-      follow_marks = subst (λ l. FollowMarks l (with_round_begun images (length ticks)) logs) (sym (next_switch queue (length ticks))) (mark_follows (switches_in queue) images logs (length ticks) k.follow_marks none above k.logs_follow.taken.ended);
+      follow_marks =
+          subst (λ l. FollowMarks l (with_round_begun images (length ticks)) logs) (sym (next_switch queue (length ticks)))
+          (mark_follows (switches_in queue) images logs (length ticks) k.follow_marks none above k.logs_follow.taken.ended);
       queued = record {
         taken = k.taken;
         some_taken = k.some_taken;
@@ -134,7 +153,8 @@ opened_keeps first ticks acknowledged images logs queue round k some whole =
         rising = m.rising;
         in_order = m.in_order;
       };
-      queued = record { taken = k.taken; some_taken = k.some_taken; left = k.left; numbered = k.numbered; has = has_later logs k.taken images.tick round.tick (with_work logs.switch queue) later k.has };
+      queued =
+          record { taken = k.taken; some_taken = k.some_taken; left = k.left; numbered = k.numbered; has = has_later logs k.taken images.tick round.tick (with_work logs.switch queue) later k.has };
     }
 
 module _ {S : Type 0} (took : S → Option Taken → S → Type 0) (first : List ℕ) (ticks : List (List Action)) (acknowledged : ℕ) (images : Images) (logs : Logs) (queue : List Record) where
@@ -148,6 +168,9 @@ module _ {S : Type 0} (took : S → Option Taken → S → Type 0) (first : List
       is ∙ ap (λ o. with_taken cell (Newest (record images { round = o }))) some in
       let here : IsRoundOf first ticks images.tick (Some (with_cell cell images.words round)) = subst (λ n. IsRoundOf first ticks images.tick (round_in n)) grown of in
       (record images { round = Some (with_cell cell images.words round) }, grown, with_words first ticks acknowledged images logs queue round (with_cell cell images.words round).taken k some here)
-  image_step_keeps (answer.Opened tick) next old new k (round, some, at, whole, is, same) of =
-      (with_round_opened images round, is, subst (λ n. IsKept first ticks (max acknowledged n) (with_round_opened images round) logs queue) (sym at) (opened_keeps first ticks acknowledged images logs queue round k some whole))
+  image_step_keeps (answer.Opened tick) next old new k (round, some, at, whole, is, same) of = (
+    with_round_opened images round,
+    is,
+    subst (λ n. IsKept first ticks (max acknowledged n) (with_round_opened images round) logs queue) (sym at) (opened_keeps first ticks acknowledged images logs queue round k some whole),
+  )
   image_step_keeps answer.Down next old new k (round, some, is, same) of = (images, is, k)

@@ -1,5 +1,6 @@
 -- The law of recovery: the claims of the two keepers on their files make the four files sound.
-use Rattle.std.proofs.Common.{◌≡◌, ℕ, ◌+◌, ◌<◌, ◌≤◌, ◌⊎◌, inl, inr, Bool, true, false, cond, ltb, ◌||◌, List, [], ◌∷◌, ◌++◌, length, take, drop, Option, Some, None, Ok, Err, refl, sym, ap, subst, ◌∙◌, arith, eq-eqb}
+use Rattle.std.proofs.Common.{◌≡◌, ℕ, ◌+◌, ◌<◌, ◌≤◌, ◌⊎◌, inl, inr, Bool, true, false, cond, ltb, ◌||◌, List, [], ◌∷◌, ◌++◌}
+use Rattle.std.proofs.Common.{length, take, drop, Option, Some, None, Ok, Err, refl, sym, ap, subst, ◌∙◌, arith, eq-eqb}
 use Rattle.std.specs.Prelude.{IfSome}
 use Rattle.std.proofs.lemmas.Bool.{eqb-true, cond-true, cond-false, le-ltb, lt-ltb, cases_lt}
 use Rattle.std.proofs.lemmas.List.{append_assoc, length-append, length-take, length-drop}
@@ -38,7 +39,8 @@ before_behind ticks newest base ClosedSegment h = closed_behind base
 before_behind ticks newest base MalformedSegment h = absurd h
 before_behind ticks newest base (OpenSegment earlier first) h = earlier_behind base earlier first h.0
 
-other_behind : (ticks : List (List Action)) (newest : ℕ) (logs : Logs) (switch : Option ℕ) (now : Segment) → LeadsTo ticks newest logs.base logs.before → IsSwitchOf newest logs switch → IsOther logs.before switch now → IsBehind logs.base now
+other_behind : (ticks : List (List Action)) (newest : ℕ) (logs : Logs) (switch : Option ℕ) (now : Segment)
+    → LeadsTo ticks newest logs.base logs.before → IsSwitchOf newest logs switch → IsOther logs.before switch now → IsBehind logs.base now
 other_behind ticks newest logs None now leads at e = subst (λ s. IsBehind logs.base s) (sym e) (before_behind ticks newest logs.base logs.before leads)
 other_behind ticks newest logs (Some t) now leads at (inl e) = subst (λ s. IsBehind logs.base s) (sym e) (before_behind ticks newest logs.base logs.before leads)
 other_behind ticks newest logs (Some t) now leads at (inr (inl e)) = subst (λ s. IsBehind logs.base s) (sym e) (closed_behind logs.base)
@@ -54,7 +56,8 @@ reached_begin : (end tick newest n : ℕ) → Reaches end tick newest → end �
 reached_begin end tick newest n (inl e) le from = omega (arith, e, le)
 reached_begin end tick newest n (inr h) le from = omega (arith, h.1, from)
 
-other_begins : (ticks : List (List Action)) (newest n : ℕ) (logs : Logs) (switch : Option ℕ) (now : Segment) → LeadsTo ticks newest logs.base logs.before → IsSwitchOf newest logs switch → IsOther logs.before switch now
+other_begins : (ticks : List (List Action)) (newest n : ℕ) (logs : Logs) (switch : Option ℕ) (now : Segment)
+    → LeadsTo ticks newest logs.base logs.before → IsSwitchOf newest logs switch → IsOther logs.before switch now
     → logs.base + length logs.kept ≤ n → newest ≤ n → BeginsUpTo n now
 other_begins ticks newest n logs None now leads at e le from = subst (BeginsUpTo n) (sym e) (before_begins ticks newest logs.base n logs.before leads (omega (arith, le)))
 other_begins ticks newest n logs (Some t) now leads at (inl e) le from = subst (BeginsUpTo n) (sym e) (before_begins ticks newest logs.base n logs.before leads (omega (arith, le)))
@@ -89,11 +92,24 @@ record Has (ticks : List (List Action)) (acknowledged newest : ℕ) (logs : Logs
   reaches : Reached acknowledged (logs.base + length here) newest
   keeps : length logs.kept ≤ length here
 
-current_has : (ticks : List (List Action)) (acknowledged newest : ℕ) (logs : Logs) (now : Segment) → LogsFollow ticks acknowledged newest logs → IsCurrent logs now → Has ticks acknowledged newest logs now
-current_has ticks acknowledged newest logs now f (inl e) = record { here = logs.kept; is = e; follows = follows_front ticks logs.base logs.kept logs.pending f.taken; reaches = f.acknowledges; keeps = omega arith }
+current_has : (ticks : List (List Action)) (acknowledged newest : ℕ) (logs : Logs) (now : Segment)
+    → LogsFollow ticks acknowledged newest logs → IsCurrent logs now → Has ticks acknowledged newest logs now
+current_has ticks acknowledged newest logs now f (inl e) = record {
+  here = logs.kept;
+  is = e;
+  follows = follows_front ticks logs.base logs.kept logs.pending f.taken;
+  reaches = f.acknowledges;
+  keeps = omega arith;
+}
 current_has ticks acknowledged newest logs now f (inr e) =
     let more : logs.base + length logs.kept ≤ logs.base + length (logs.kept ++ logs.pending) = omega (arith, length-append logs.kept logs.pending) in
-    record { here = logs.kept ++ logs.pending; is = e; follows = f.taken; reaches = reached_more acknowledged (logs.base + length logs.kept) (logs.base + length (logs.kept ++ logs.pending)) newest f.acknowledges more; keeps = omega (arith, length-append logs.kept logs.pending) }
+    record {
+      here = logs.kept ++ logs.pending;
+      is = e;
+      follows = f.taken;
+      reaches = reached_more acknowledged (logs.base + length logs.kept) (logs.base + length (logs.kept ++ logs.pending)) newest f.acknowledges more;
+      keeps = omega (arith, length-append logs.kept logs.pending);
+    }
 
 -- to a base after the newest image's tick the segment before leads with no tick between
 meets : (end base newest : ℕ) → Reaches end base newest → newest < base → end ≡ base
@@ -101,7 +117,9 @@ meets end base newest (inl e) below = e
 meets end base newest (inr h) below = absurd (omega (arith, h.1))
 
 -- from the tick of the segment before
-from_before : (ticks : List (List Action)) (acknowledged newest t base : ℕ) (here : List (List Action)) (before : Segment) → FollowsFrom ticks base here → Reached acknowledged (base + length here) newest → newest ≤ t → LeadsTo ticks newest base before → has_base t before ≡ true → IsTail ticks acknowledged t (OpenSegment base here) before
+from_before : (ticks : List (List Action)) (acknowledged newest t base : ℕ) (here : List (List Action)) (before : Segment)
+    → FollowsFrom ticks base here → Reached acknowledged (base + length here) newest → newest ≤ t
+    → LeadsTo ticks newest base before → has_base t before ≡ true → IsTail ticks acknowledged t (OpenSegment base here) before
 from_before ticks acknowledged newest t base here ClosedSegment f k from leads at = absurd cc
 from_before ticks acknowledged newest t base here MalformedSegment f k from leads at = absurd leads
 from_before ticks acknowledged newest t base here (OpenSegment earlier first) f k from leads at =
@@ -123,7 +141,10 @@ untouched : (before : Segment) (switch : Option ℕ) (now : Segment) → switch 
 untouched before None now none e = e
 untouched before (Some t) now none e = absurd (let h = none in cc)
 
-log_tail : (ticks : List (List Action)) (acknowledged newest t : ℕ) (logs : Logs) (here : List (List Action)) (other : Segment) → LogsFollow ticks acknowledged newest logs → FollowsFrom ticks logs.base here → Reached acknowledged (logs.base + length here) newest → length logs.kept ≤ length here → IsOther logs.before logs.switch other → IsBehind logs.base other → newest ≤ t → t ≤ length ticks → LeadsOn ticks logs t → IsTail ticks acknowledged t (OpenSegment logs.base here) other
+log_tail : (ticks : List (List Action)) (acknowledged newest t : ℕ) (logs : Logs) (here : List (List Action)) (other : Segment)
+    → LogsFollow ticks acknowledged newest logs → FollowsFrom ticks logs.base here
+    → Reached acknowledged (logs.base + length here) newest → length logs.kept ≤ length here
+    → IsOther logs.before logs.switch other → IsBehind logs.base other → newest ≤ t → t ≤ length ticks → LeadsOn ticks logs t → IsTail ticks acknowledged t (OpenSegment logs.base here) other
 log_tail ticks acknowledged newest t logs here other f follows reaches keeps is behind from ended (inl e) =
     let tail : IsTail ticks acknowledged logs.base (OpenSegment logs.base here) other = record {
       more = length here;
@@ -153,7 +174,9 @@ record LogPair (ticks : List (List Action)) (acknowledged t : ℕ) (current othe
   current_formed : is_bad_segment current ≡ false
   other_formed : is_bad_segment other ≡ false
 
-log_pair : (ticks : List (List Action)) (acknowledged newest t : ℕ) (logs : Logs) (current other : Segment) → LogsFollow ticks acknowledged newest logs → IsCurrent logs current → IsOther logs.before logs.switch other → newest ≤ t → t ≤ length ticks → LeadsOn ticks logs t → LogPair ticks acknowledged t current other
+log_pair : (ticks : List (List Action)) (acknowledged newest t : ℕ) (logs : Logs) (current other : Segment)
+    → LogsFollow ticks acknowledged newest logs → IsCurrent logs current → IsOther logs.before logs.switch other → newest ≤ t
+    → t ≤ length ticks → LeadsOn ticks logs t → LogPair ticks acknowledged t current other
 log_pair ticks acknowledged newest t logs current other f is_current is_other from ended leads =
     let has = current_has ticks acknowledged newest logs current f is_current in
     let behind = other_behind ticks newest logs logs.switch other f.before f.switch is_other in
@@ -176,7 +199,8 @@ pub record Picked (first : List ℕ) (ticks : List (List Action)) (t : ℕ) (ima
   pub a_holds : HoldsWorld first ticks image.tick image_a
   pub b_holds : HoldsWorld first ticks image.tick image_b
 
-kept_left : (first : List ℕ) (ticks : List (List Action)) (tick : ℕ) (words : List ℕ) (now : Image) → IsWorldAt first ticks tick words → HoldsWorld first ticks tick now → Picked first ticks tick (Open tick words) now
+kept_left : (first : List ℕ) (ticks : List (List Action)) (tick : ℕ) (words : List ℕ) (now : Image)
+    → IsWorldAt first ticks tick words → HoldsWorld first ticks tick now → Picked first ticks tick (Open tick words) now
 kept_left first ticks tick words Closed at h = record { image = record { slot = A; tick = tick; words = words }; is = refl; tick_is = refl; world = at; a_holds = (omega arith, at); b_holds = tt }
 kept_left first ticks tick words Bad at h = absurd h
 kept_left first ticks tick words (Open s v) at h = record {
@@ -188,7 +212,8 @@ kept_left first ticks tick words (Open s v) at h = record {
   b_holds = h;
 }
 
-kept_right : (first : List ℕ) (ticks : List (List Action)) (tick : ℕ) (words : List ℕ) (now : Image) → IsWorldAt first ticks tick words → HoldsWorld first ticks tick now → Picked first ticks tick now (Open tick words)
+kept_right : (first : List ℕ) (ticks : List (List Action)) (tick : ℕ) (words : List ℕ) (now : Image)
+    → IsWorldAt first ticks tick words → HoldsWorld first ticks tick now → Picked first ticks tick now (Open tick words)
 kept_right first ticks tick words Closed at h = record { image = record { slot = B; tick = tick; words = words }; is = refl; tick_is = refl; world = at; a_holds = tt; b_holds = (omega arith, at) }
 kept_right first ticks tick words Bad at h = absurd h
 kept_right first ticks tick words (Open s v) at h =
@@ -211,7 +236,8 @@ kept_right first ticks tick words (Open s v) at h =
       }
     ]
 
-passed_left : (first : List ℕ) (ticks : List (List Action)) (tick t : ℕ) (words done : List ℕ) → tick < t → IsWorldAt first ticks tick words → IsWorldAt first ticks t done → Picked first ticks t (Open tick words) (Open t done)
+passed_left : (first : List ℕ) (ticks : List (List Action)) (tick t : ℕ) (words done : List ℕ) → tick < t
+    → IsWorldAt first ticks tick words → IsWorldAt first ticks t done → Picked first ticks t (Open tick words) (Open t done)
 passed_left first ticks tick t words done lt at later = record {
   image = record { slot = B; tick = t; words = done };
   is = cond-true (ltb tick t) (Some (record { slot = B; tick = t; words = done })) (Some (record { slot = A; tick = tick; words = words })) (lt-ltb tick t lt);
@@ -221,7 +247,8 @@ passed_left first ticks tick t words done lt at later = record {
   b_holds = (omega arith, later);
 }
 
-passed_right : (first : List ℕ) (ticks : List (List Action)) (tick t : ℕ) (words done : List ℕ) → tick < t → IsWorldAt first ticks tick words → IsWorldAt first ticks t done → Picked first ticks t (Open t done) (Open tick words)
+passed_right : (first : List ℕ) (ticks : List (List Action)) (tick t : ℕ) (words done : List ℕ) → tick < t
+    → IsWorldAt first ticks tick words → IsWorldAt first ticks t done → Picked first ticks t (Open t done) (Open tick words)
 passed_right first ticks tick t words done lt at later = record {
   image = record { slot = A; tick = t; words = done };
   is = cond-false (ltb t tick) (Some (record { slot = B; tick = tick; words = words })) (Some (record { slot = A; tick = t; words = done })) (le-ltb t tick (omega arith));
@@ -242,13 +269,18 @@ pub record ImagePair (first : List ℕ) (ticks : List (List Action)) (tick : ℕ
   on_right : Picked first ticks t now (Open tick words)
   which : IsImageTick tick round t
 
-kept_pair : (first : List ℕ) (ticks : List (List Action)) (tick : ℕ) (words : List ℕ) (round : Option Round) (now : Image) → IsImageTick tick round tick → IsWorldAt first ticks tick words → HoldsWorld first ticks tick now → ImagePair first ticks tick words round now
+kept_pair : (first : List ℕ) (ticks : List (List Action)) (tick : ℕ) (words : List ℕ) (round : Option Round) (now : Image)
+    → IsImageTick tick round tick → IsWorldAt first ticks tick words → HoldsWorld first ticks tick now → ImagePair first ticks tick words round now
 kept_pair first ticks tick words round now which at h = record { t = tick; on_left = kept_left first ticks tick words now at h; on_right = kept_right first ticks tick words now at h; which = which }
 
-image_pair : (first : List ℕ) (ticks : List (List Action)) (tick : ℕ) (words : List ℕ) (before : Image) (round : Option Round) (now : Image) → IsWorldAt first ticks tick words → HoldsWorld first ticks tick before → IsRoundOf first ticks tick round → IsTarget (length first) before round now → ImagePair first ticks tick words round now
+image_pair : (first : List ℕ) (ticks : List (List Action)) (tick : ℕ) (words : List ℕ) (before : Image) (round : Option Round)
+    (now : Image) → IsWorldAt first ticks tick words → HoldsWorld first ticks tick before → IsRoundOf first ticks tick round
+    → IsTarget (length first) before round now → ImagePair first ticks tick words round now
 image_pair first ticks tick words before None now at h r e = subst (λ i. ImagePair first ticks tick words None i) (sym e) (kept_pair first ticks tick words None before refl at h)
-image_pair first ticks tick words before (Some round) now at h r (inl e) = subst (λ i. ImagePair first ticks tick words (Some round) i) (sym e) (kept_pair first ticks tick words (Some round) before (inl refl) at h)
-image_pair first ticks tick words before (Some round) now at h r (inr (inl e)) = subst (λ i. ImagePair first ticks tick words (Some round) i) (sym e) (kept_pair first ticks tick words (Some round) Closed (inl refl) at tt)
+image_pair first ticks tick words before (Some round) now at h r (inl e) =
+    subst (λ i. ImagePair first ticks tick words (Some round) i) (sym e) (kept_pair first ticks tick words (Some round) before (inl refl) at h)
+image_pair first ticks tick words before (Some round) now at h r (inr (inl e)) =
+    subst (λ i. ImagePair first ticks tick words (Some round) i) (sym e) (kept_pair first ticks tick words (Some round) Closed (inl refl) at tt)
 image_pair first ticks tick words before (Some round) now at h r (inr (inr e)) =
     let pair : ImagePair first ticks tick words (Some round) (Open round.tick round.taken) = record {
       t = round.tick;
@@ -275,19 +307,22 @@ still_holds first ticks most more Bad le h = h
 still_holds first ticks most more (Open s v) le h = (omega (arith, h.0), h.1)
 
 -- the replay on the picked image is a sound reading
-pub picked_reading : (first : List ℕ) (ticks : List (List Action)) (acknowledged t : ℕ) (image_a image_b : Image) (log_a log_b : Segment) (p : Picked first ticks t image_a image_b) → is_bad_segment log_a ≡ false → is_bad_segment log_b ≡ false
+pub picked_reading : (first : List ℕ) (ticks : List (List Action)) (acknowledged t : ℕ) (image_a image_b : Image)
+    (log_a log_b : Segment) (p : Picked first ticks t image_a image_b) → is_bad_segment log_a ≡ false → is_bad_segment log_b ≡ false
     → (more : ℕ) (words : List ℕ) → recovery_from (Some p.image) log_a log_b ≡ Ok (record { tick = p.image.tick + more; from = p.image.tick; slot = p.image.slot; words = words })
     → acknowledged ≤ p.image.tick + more → IsWorldAt first ticks (p.image.tick + more) words → BeginsUpTo (p.image.tick + more) log_a → BeginsUpTo (p.image.tick + more) log_b
     → IsSoundReading image_a image_b log_a log_b first ticks acknowledged
 picked_reading first ticks acknowledged t image_a image_b log_a log_b p fa fb more words is reaches world begins_a begins_b =
     let n = p.image in
-    let images_formed : (is_bad_image image_a || is_bad_image image_b) ≡ false = or_false (is_bad_image image_a) (is_bad_image image_b) (well_formed first ticks n.tick image_a p.a_holds) (well_formed first ticks n.tick image_b p.b_holds) in
+    let images_formed : (is_bad_image image_a || is_bad_image image_b)
+    ≡ false = or_false (is_bad_image image_a) (is_bad_image image_b) (well_formed first ticks n.tick image_a p.a_holds) (well_formed first ticks n.tick image_b p.b_holds) in
     let logs_formed : (is_bad_segment log_a || is_bad_segment log_b) ≡ false = or_false (is_bad_segment log_a) (is_bad_segment log_b) fa fb in
     let later : n.tick ≤ n.tick + more = omega arith in
     record {
       recovery = record { tick = n.tick + more; from = n.tick; slot = n.slot; words = words };
       stands =
-          cond-false (is_bad_image image_a || is_bad_image image_b) (Err BadImage) (cond (is_bad_segment log_a || is_bad_segment log_b) (Err BadLog) (recovery_from (newest image_a image_b) log_a log_b)) images_formed
+          cond-false (is_bad_image image_a || is_bad_image image_b) (Err BadImage)
+          (cond (is_bad_segment log_a || is_bad_segment log_b) (Err BadLog) (recovery_from (newest image_a image_b) log_a log_b)) images_formed
           ∙ cond-false (is_bad_segment log_a || is_bad_segment log_b) (Err BadLog) (recovery_from (newest image_a image_b) log_a log_b) logs_formed
           ∙ ap (λ o. recovery_from o log_a log_b) p.is
           ∙ is;
@@ -299,7 +334,9 @@ picked_reading first ticks acknowledged t image_a image_b log_a log_b p fa fb mo
       log_b_begins = begins_b;
     }
 
-pub sound_reading : (first : List ℕ) (ticks : List (List Action)) (acknowledged t : ℕ) (last : List ℕ) (image_a image_b : Image) (log_a log_b : Segment) → after_ticks first ticks ≡ Ok last → Picked first ticks t image_a image_b → IsTail ticks acknowledged t log_a log_b → is_bad_segment log_a ≡ false → is_bad_segment log_b ≡ false → IsSoundReading image_a image_b log_a log_b first ticks acknowledged
+pub sound_reading : (first : List ℕ) (ticks : List (List Action)) (acknowledged t : ℕ) (last : List ℕ) (image_a image_b : Image)
+    (log_a log_b : Segment) → after_ticks first ticks ≡ Ok last → Picked first ticks t image_a image_b
+    → IsTail ticks acknowledged t log_a log_b → is_bad_segment log_a ≡ false → is_bad_segment log_b ≡ false → IsSoundReading image_a image_b log_a log_b first ticks acknowledged
 sound_reading first ticks acknowledged t last image_a image_b log_a log_b all p from fa fb =
     let n = p.image in
     let at : IsTail ticks acknowledged n.tick log_a log_b = subst (λ m. IsTail ticks acknowledged m log_a log_b) (sym p.tick_is) from in
@@ -351,16 +388,22 @@ module _ (ticks : List (List Action)) (logs : Logs) (t : ℕ) (later : List ℕ)
       let rest : logs.base ∷ coming logs.switch later ≡ front ++ t ∷ after = cc in
       from_current front after rest rise begin
 
-image_leads : (ticks : List (List Action)) (later : List ℕ) (images : Images) (logs : Logs) (m : FollowMarks later images logs) (round : Option Round) (t : ℕ) → images.round ≡ round → IsImageTick images.tick round t → LeadsOn ticks logs t
+image_leads : (ticks : List (List Action)) (later : List ℕ) (images : Images) (logs : Logs) (m : FollowMarks later images logs)
+    (round : Option Round) (t : ℕ) → images.round ≡ round → IsImageTick images.tick round t → LeadsOn ticks logs t
 image_leads ticks later images logs m None t is e =
-    let bases : base_in logs.before ++ logs.base ∷ coming logs.switch later ≡ m.earlier ++ images.tick ∷ [] = subst (λ r. base_in logs.before ++ logs.base ∷ coming logs.switch later ≡ m.earlier ++ images.tick ∷ round_tick r) is m.bases in
+    let bases : base_in logs.before ++ logs.base ∷ coming logs.switch later ≡ m.earlier ++ images.tick ∷ [] = subst
+    (λ r. base_in logs.before ++ logs.base ∷ coming logs.switch later ≡ m.earlier ++ images.tick ∷ round_tick r) is m.bases in
     subst (λ n. LeadsOn ticks logs n) (sym e) (place_leads ticks logs images.tick later logs.before m.earlier [] refl bases (omega arith) m.rising m.in_order)
 image_leads ticks later images logs m (Some round) t is (inl e) =
-    let bases : base_in logs.before ++ logs.base ∷ coming logs.switch later ≡ m.earlier ++ images.tick ∷ round.tick ∷ [] = subst (λ r. base_in logs.before ++ logs.base ∷ coming logs.switch later ≡ m.earlier ++ images.tick ∷ round_tick r) is m.bases in
+    let bases : base_in logs.before ++ logs.base ∷ coming logs.switch later ≡ m.earlier ++ images.tick ∷ round.tick ∷ [] = subst
+    (λ r. base_in logs.before ++ logs.base ∷ coming logs.switch later ≡ m.earlier ++ images.tick ∷ round_tick r) is m.bases in
     subst (λ n. LeadsOn ticks logs n) (sym e) (place_leads ticks logs images.tick later logs.before m.earlier (round.tick ∷ []) refl bases (omega arith) m.rising m.in_order)
 image_leads ticks later images logs m (Some round) t is (inr e) =
-    let bases : base_in logs.before ++ logs.base ∷ coming logs.switch later ≡ m.earlier ++ images.tick ∷ round.tick ∷ [] = subst (λ r. base_in logs.before ++ logs.base ∷ coming logs.switch later ≡ m.earlier ++ images.tick ∷ round_tick r) is m.bases in
-    subst (λ n. LeadsOn ticks logs n) (sym e) (place_leads ticks logs round.tick later logs.before (m.earlier ++ images.tick ∷ []) [] refl (bases ∙ sym (append_assoc m.earlier (images.tick ∷ []) (round.tick ∷ []))) (omega arith) m.rising m.in_order)
+    let bases : base_in logs.before ++ logs.base ∷ coming logs.switch later ≡ m.earlier ++ images.tick ∷ round.tick ∷ [] = subst
+    (λ r. base_in logs.before ++ logs.base ∷ coming logs.switch later ≡ m.earlier ++ images.tick ∷ round_tick r) is m.bases in
+    subst (λ n. LeadsOn ticks logs n) (sym e)
+    (place_leads ticks logs round.tick later logs.before (m.earlier ++ images.tick ∷ []) [] refl
+    (bases ∙ sym (append_assoc m.earlier (images.tick ∷ []) (round.tick ∷ []))) (omega arith) m.rising m.in_order)
 
 -- the picked image is no older than the newest image
 not_older : (first : List ℕ) (ticks : List (List Action)) (newest : ℕ) (round : Option Round) (t : ℕ) → IsRoundOf first ticks newest round → IsImageTick newest round t → newest ≤ t
@@ -375,7 +418,8 @@ pub record ReadImages (first : List ℕ) (ticks : List (List Action)) (tick : �
   pub picked : Picked first ticks t image_a image_b
   pub which : IsImageTick tick round t
 
-pub read_images : (first : List ℕ) (ticks : List (List Action)) (slot : Slot) (tick : ℕ) (words : List ℕ) (before : Image) (round : Option Round) (may_a may_b : List ℕ → Type 0) → IsWorldAt first ticks tick words → HoldsWorld first ticks tick before → IsRoundOf first ticks tick round
+pub read_images : (first : List ℕ) (ticks : List (List Action)) (slot : Slot) (tick : ℕ) (words : List ℕ) (before : Image)
+    (round : Option Round) (may_a may_b : List ℕ → Type 0) → IsWorldAt first ticks tick words → HoldsWorld first ticks tick before → IsRoundOf first ticks tick round
     → ((bytes : List ℕ) → in_slot slot may_a may_b bytes → image_of bytes ≡ Open tick words)
     → ((bytes : List ℕ) → beside_slot slot may_a may_b bytes → IsTarget (length first) before round (image_of bytes))
     → (a b : List ℕ) → may_a a → may_b b → ReadImages first ticks tick round (image_of a) (image_of b)
@@ -393,7 +437,8 @@ record ReadLogs (ticks : List (List Action)) (acknowledged t : ℕ) (log_a log_b
   a_formed : is_bad_segment log_a ≡ false
   b_formed : is_bad_segment log_b ≡ false
 
-read_logs : (ticks : List (List Action)) (acknowledged newest t : ℕ) (logs : Logs) (slot : Slot) (may_a may_b : List ℕ → Type 0) → LogsFollow ticks acknowledged newest logs → newest ≤ t → t ≤ length ticks → LeadsOn ticks logs t
+read_logs : (ticks : List (List Action)) (acknowledged newest t : ℕ) (logs : Logs) (slot : Slot) (may_a may_b : List ℕ → Type 0)
+    → LogsFollow ticks acknowledged newest logs → newest ≤ t → t ≤ length ticks → LeadsOn ticks logs t
     → ((bytes : List ℕ) → in_slot slot may_a may_b bytes → (now : Segment) × IsSegment bytes now × IsCurrent logs now)
     → ((bytes : List ℕ) → beside_slot slot may_a may_b bytes → (now : Segment) × IsSegment bytes now × IsOther logs.before logs.switch now)
     → (a b : List ℕ) → may_a a → may_b b → BothRead a b (ReadLogs ticks acknowledged t)
@@ -421,4 +466,10 @@ files_are_sound image_a image_b log_a log_b first ticks acknowledged last images
     let leads = image_leads ticks later images logs m images.round i.t refl i.which in
     let from = not_older first ticks images.tick images.round i.t fi.round i.which in
     let l = read_logs ticks acknowledged images.tick i.t logs logs.slot log_a log_b fl from ended leads al.current al.other la lb hla hlb in
-    record { a = l.a; b = l.b; reads_a = l.reads_a; reads_b = l.reads_b; holds = sound_reading first ticks acknowledged i.t last (image_of a) (image_of b) l.a l.b all i.picked l.holds.tail_is l.holds.a_formed l.holds.b_formed }
+    record {
+      a = l.a;
+      b = l.b;
+      reads_a = l.reads_a;
+      reads_b = l.reads_b;
+      holds = sound_reading first ticks acknowledged i.t last (image_of a) (image_of b) l.a l.b all i.picked l.holds.tail_is l.holds.a_formed l.holds.b_formed;
+    }

@@ -24,12 +24,14 @@ use Rattle.recovery.proofs.Restart.{first_at}
 
 pub starting_is_sound : (image_a image_b log_a log_b : List ℕ → Type 0)
     → (first : List ℕ) (ticks : List (List Action)) (acknowledged : ℕ) (images : Images) (from : ℕ) (start : Start)
-    → IsStarting first ticks acknowledged images from start → ImagesAre (length first) images image_a image_b → StartLogsAre start log_a log_b → IsSound image_a image_b log_a log_b first ticks acknowledged
+    → IsStarting first ticks acknowledged images from start → ImagesAre (length first) images image_a image_b
+    → StartLogsAre start log_a log_b → IsSound image_a image_b log_a log_b first ticks acknowledged
 starting_is_sound image_a image_b log_a log_b first ticks acknowledged images from start s ai al =
     start_is_sound image_a image_b log_a log_b first ticks acknowledged s.last images from start s.accepted s.images_follow s.start_follows ai al
 
 pub start_round_begins : (first : List ℕ) (ticks : List (List Action)) (acknowledged : ℕ) (images next : Images) (from : ℕ) (start : Start)
-    → 1 ≤ length first → IsStarting first ticks acknowledged images from start → images.tick < start.tick → with_round start.tick (Newest images) ≡ Newest next → IsStarting first ticks acknowledged next from start
+    → 1 ≤ length first → IsStarting first ticks acknowledged images from start → images.tick < start.tick
+    → with_round start.tick (Newest images) ≡ Newest next → IsStarting first ticks acknowledged next from start
 start_round_begins first ticks acknowledged images next from start some s below is =
     let f = s.start_follows in
     let same : with_round_begun images start.tick ≡ next = cc in
@@ -37,7 +39,20 @@ start_round_begins first ticks acknowledged images next from start some s below 
       last = s.last;
       accepted = s.accepted;
       images_follow = record { newest = s.images_follow.newest; before = s.images_follow.before; round = (below, λ full. absurd (omega (arith, full, some))) };
-      start_follows = record { whole = f.whole; ahead = f.ahead; ends = f.ends; replays = f.replays; a_formed = f.a_formed; b_formed = f.b_formed; a_begins = f.a_begins; b_begins = f.b_begins; acknowledges = f.acknowledges; image = f.image; round = refl };
+      start_follows =
+          record {
+            whole = f.whole;
+            ahead = f.ahead;
+            ends = f.ends;
+            replays = f.replays;
+            a_formed = f.a_formed;
+            b_formed = f.b_formed;
+            a_begins = f.a_begins;
+            b_begins = f.b_begins;
+            acknowledges = f.acknowledges;
+            image = f.image;
+            round = refl;
+          };
     } in
     subst (λ i. IsStarting first ticks acknowledged i from start) same begun
 
@@ -52,7 +67,20 @@ start_words first ticks acknowledged images from start round taken s some of =
       last = s.last;
       accepted = s.accepted;
       images_follow = record { newest = s.images_follow.newest; before = s.images_follow.before; round = of };
-      start_follows = record { whole = f.whole; ahead = f.ahead; ends = f.ends; replays = f.replays; a_formed = f.a_formed; b_formed = f.b_formed; a_begins = f.a_begins; b_begins = f.b_begins; acknowledges = f.acknowledges; image = f.image; round = at };
+      start_follows =
+          record {
+            whole = f.whole;
+            ahead = f.ahead;
+            ends = f.ends;
+            replays = f.replays;
+            a_formed = f.a_formed;
+            b_formed = f.b_formed;
+            a_begins = f.a_begins;
+            b_begins = f.b_begins;
+            acknowledges = f.acknowledges;
+            image = f.image;
+            round = at;
+          };
     }
 
 start_opened : (first : List ℕ) (ticks : List (List Action)) (acknowledged : ℕ) (images : Images) (from : ℕ) (start : Start) (round : Round)
@@ -66,7 +94,20 @@ start_opened first ticks acknowledged images from start round s some whole =
       last = s.last;
       accepted = s.accepted;
       images_follow = opened_follows first ticks images round s.images_follow of whole;
-      start_follows = record { whole = f.whole; ahead = f.ahead; ends = f.ends; replays = f.replays; a_formed = f.a_formed; b_formed = f.b_formed; a_begins = f.a_begins; b_begins = f.b_begins; acknowledges = omega (arith, f.acknowledges, at); image = inl at; round = tt };
+      start_follows =
+          record {
+            whole = f.whole;
+            ahead = f.ahead;
+            ends = f.ends;
+            replays = f.replays;
+            a_formed = f.a_formed;
+            b_formed = f.b_formed;
+            a_begins = f.a_begins;
+            b_begins = f.b_begins;
+            acknowledges = omega (arith, f.acknowledges, at);
+            image = inl at;
+            round = tt;
+          };
     }
 
 module _ {S : Type 0} (took : S → Option Taken → S → Type 0) where
@@ -82,8 +123,11 @@ module _ {S : Type 0} (took : S → Option Taken → S → Type 0) where
       is ∙ ap (λ o. with_taken cell (Newest (record images { round = o }))) some in
       let here : IsRoundOf first ticks images.tick (Some (with_cell cell images.words round)) = subst (λ n. IsRoundOf first ticks images.tick (round_in n)) grown of in
       (record images { round = Some (with_cell cell images.words round) }, grown, start_words first ticks acknowledged images from start round (with_cell cell images.words round).taken s some here)
-  start_image_step_keeps first ticks acknowledged images from start (answer.Opened tick) next old new s (round, some, at, whole, is, same) of =
-      (with_round_opened images round, is, subst (λ n. IsStarting first ticks (max acknowledged n) (with_round_opened images round) from start) (sym at) (start_opened first ticks acknowledged images from start round s some whole))
+  start_image_step_keeps first ticks acknowledged images from start (answer.Opened tick) next old new s (round, some, at, whole, is, same) of = (
+    with_round_opened images round,
+    is,
+    subst (λ n. IsStarting first ticks (max acknowledged n) (with_round_opened images round) from start) (sym at) (start_opened first ticks acknowledged images from start round s some whole),
+  )
   start_image_step_keeps first ticks acknowledged images from start answer.Down next old new s (round, some, is, same) of = (images, is, s)
 
 start_log_begins : (first : List ℕ) (ticks : List (List Action)) (acknowledged : ℕ) (images : Images) (from : ℕ) (start : Start)
@@ -94,7 +138,20 @@ start_log_begins first ticks acknowledged images from start s at =
       last = s.last;
       accepted = s.accepted;
       images_follow = s.images_follow;
-      start_follows = record { whole = f.whole; ahead = f.ahead; ends = f.ends; replays = f.replays; a_formed = f.a_formed; b_formed = f.b_formed; a_begins = f.a_begins; b_begins = f.b_begins; acknowledges = f.acknowledges; image = inl at; round = f.round };
+      start_follows =
+          record {
+            whole = f.whole;
+            ahead = f.ahead;
+            ends = f.ends;
+            replays = f.replays;
+            a_formed = f.a_formed;
+            b_formed = f.b_formed;
+            a_begins = f.a_begins;
+            b_begins = f.b_begins;
+            acknowledges = f.acknowledges;
+            image = inl at;
+            round = f.round;
+          };
     }
 
 start_ends : (first : List ℕ) (ticks : List (List Action)) (acknowledged : ℕ) (images : Images) (from : ℕ) (start : Start)
@@ -162,7 +219,8 @@ first_starting first images start round f some whole =
       };
     }
 
-first_words : (first : List ℕ) (images : FirstImages) (start : Start) (round : Option Round) → FirstFollows first images start → IsFirstRound first round → FirstFollows first (record { round = round }) start
+first_words : (first : List ℕ) (images : FirstImages) (start : Start) (round : Option Round) → FirstFollows first images start
+    → IsFirstRound first round → FirstFollows first (record { round = round }) start
 first_words first images start round f of = record { round = of; untouched = f.untouched; at_zero = f.at_zero; a_closed = f.a_closed; b_closed = f.b_closed }
 
 module _ {S : Type 0} (took : S → Option Taken → S → Type 0) where
@@ -177,5 +235,14 @@ module _ {S : Type 0} (took : S → Option Taken → S → Type 0) where
       inl (record { round = option_map (with_cell cell []) images.round }, is, first_words first images start (option_map (with_cell cell []) images.round) f here)
   first_image_step_keeps first images start (answer.Opened tick) next old new f (round, some, at, whole, is, same) of =
       let begins : IsFirstRound first (Some round) = subst (IsFirstRound first) some f.round in
-      inr (record { slot = A; tick = round.tick; words = round.taken; before = Closed; round = None }, is, begins.0, refl, subst (λ n. IsStarting first [] n (record { slot = A; tick = round.tick; words = round.taken; before = Closed; round = None }) 0 start) (let none : 0 ≡ max 0 tick = omega (arith, at, begins.0) in none) (first_starting first images start round f some whole))
+      inr (
+        record { slot = A; tick = round.tick; words = round.taken; before = Closed; round = None },
+        is,
+        begins.0,
+        refl,
+        subst
+            (λ n.
+            IsStarting first [] n (record { slot = A; tick = round.tick; words = round.taken; before = Closed; round = None }) 0
+            start) (let none : 0 ≡ max 0 tick = omega (arith, at, begins.0) in none) (first_starting first images start round f some whole),
+      )
   first_image_step_keeps first images start answer.Down next old new f (round, some, is, same) of = inl (images, is, f)

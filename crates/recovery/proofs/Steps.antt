@@ -16,13 +16,16 @@ use Rattle.action_log.specs.declared.record.Record.TheVariants as records
 use Rattle.action_log.specs.Queue.{StandBefore}
 use Rattle.recovery.proofs.Replay.{follows_front}
 use Rattle.recovery.proofs.Law.{IsSwitchOf, Reached, reached_more, reached_fewer, begins}
-use Rattle.recovery.proofs.Events.{with_group, with_group_kept, with_switch, reached_max, first_switch, group_at, group_numbered, group_switches, group_ticks, group_follows, bases_done, bases_covered, below_rising, switches_behind, ticks_behind, numbered_behind, has_upto}
+use Rattle.recovery.proofs.Events.{with_group, with_group_kept, with_switch, reached_max, first_switch, group_at, group_numbered}
+use Rattle.recovery.proofs.Events.{group_switches, group_ticks, group_follows, bases_done, bases_covered, below_rising}
+use Rattle.recovery.proofs.Events.{switches_behind, ticks_behind, numbered_behind, has_upto}
 
 idle_count : (logs : Logs) → logs.pending ≡ [] → logs.base + length (logs.kept ++ logs.pending) ≡ logs.base + length logs.kept
 idle_count logs none = ap (λ l. logs.base + length (logs.kept ++ l)) none ∙ ap (λ l. logs.base + length l) (append-nil logs.kept)
 
 -- fewer are acknowledged
-pub keeps_fewer : (first : List ℕ) (ticks : List (List Action)) (acknowledged fewer : ℕ) (images : Images) (logs : Logs) (queue : List Record) → fewer ≤ acknowledged → IsKept first ticks acknowledged images logs queue → IsKept first ticks fewer images logs queue
+pub keeps_fewer : (first : List ℕ) (ticks : List (List Action)) (acknowledged fewer : ℕ) (images : Images) (logs : Logs)
+    (queue : List Record) → fewer ≤ acknowledged → IsKept first ticks acknowledged images logs queue → IsKept first ticks fewer images logs queue
 keeps_fewer first ticks acknowledged fewer images logs queue le k =
     let f = k.logs_follow in
     record {
@@ -40,13 +43,15 @@ module _ (first : List ℕ) (ticks : List (List Action)) (acknowledged : ℕ) (i
   idle_has : (queue : List Record) (k : IsKept first ticks acknowledged images logs queue) → is_idle logs → HasUpTo logs k.taken images.tick queue
   idle_has queue k idle = subst (λ o. HasUpTo logs k.taken images.tick (with_work o queue)) idle.1 k.has
 
-  idle_bases : (queue : List Record) (k : IsKept first ticks acknowledged images logs queue) → is_idle logs → base_in logs.before ++ logs.base ∷ switches_in queue ≡ k.follow_marks.earlier ++ images.tick ∷ round_tick images.round
+  idle_bases : (queue : List Record) (k : IsKept first ticks acknowledged images logs queue) → is_idle logs
+      → base_in logs.before ++ logs.base ∷ switches_in queue ≡ k.follow_marks.earlier ++ images.tick ∷ round_tick images.round
   idle_bases queue k idle = subst (λ o. base_in logs.before ++ logs.base ∷ coming o (switches_in queue) ≡ k.follow_marks.earlier ++ images.tick ∷ round_tick images.round) idle.1 k.follow_marks.bases
 
   idle_rising : (queue : List Record) (k : IsKept first ticks acknowledged images logs queue) → is_idle logs → RiseFrom logs.base (switches_in queue)
   idle_rising queue k idle = subst (λ o. RiseFrom logs.base (coming o (switches_in queue))) idle.1 k.follow_marks.rising
 
-  pub keeps_group : (group : List (List Action)) (queue left : List Record) → StandBefore group queue left → 1 ≤ length group → IsKept first ticks acknowledged images logs queue → is_idle logs → IsKept first ticks acknowledged images (with_group logs group) left
+  pub keeps_group : (group : List (List Action)) (queue left : List Record) → StandBefore group queue left → 1 ≤ length group
+      → IsKept first ticks acknowledged images logs queue → is_idle logs → IsKept first ticks acknowledged images (with_group logs group) left
   keeps_group group queue left stand some k idle =
       let f = k.logs_follow in
       let m = k.follow_marks in
@@ -80,7 +85,8 @@ module _ (first : List ℕ) (ticks : List (List Action)) (acknowledged : ℕ) (i
   switch_reaches mark taken newest queue e none (inl h) = inl (sym (idle_count logs none) ∙ h ∙ sym e)
   switch_reaches mark taken newest queue e none (inr h) = inr (omega (arith, e, h.1), omega (arith, e, h.2))
 
-  pub keeps_switch_begun : (mark : ℕ) (left : List Record) → IsKept first ticks acknowledged images logs (records.Switch mark ∷ left) → is_idle logs → IsKept first ticks acknowledged images (with_switch logs mark) left
+  pub keeps_switch_begun : (mark : ℕ) (left : List Record)
+      → IsKept first ticks acknowledged images logs (records.Switch mark ∷ left) → is_idle logs → IsKept first ticks acknowledged images (with_switch logs mark) left
   keeps_switch_begun mark left k idle =
       let f = k.logs_follow in
       let m = k.follow_marks in
@@ -115,14 +121,17 @@ module _ (first : List ℕ) (ticks : List (List Action)) (acknowledged : ℕ) (i
   switch_kept mark newest (inr r) (inl h) = inl (omega (arith, r.0, h))
   switch_kept mark newest r (inr h) = inr h
 
-  pub keeps_switched : (mark : ℕ) (queue : List Record) → IsKept first ticks acknowledged images logs queue → logs.switch ≡ Some mark → IsKept first ticks acknowledged images (switched_to logs mark) queue
+  pub keeps_switched : (mark : ℕ) (queue : List Record) → IsKept first ticks acknowledged images logs queue
+      → logs.switch ≡ Some mark → IsKept first ticks acknowledged images (switched_to logs mark) queue
   keeps_switched mark queue k is =
       let f = k.logs_follow in
       let m = k.follow_marks in
       let of : IsSwitchOf images.tick logs (Some mark) = subst (IsSwitchOf images.tick logs) is f.switch in
       let numbered : AreNumbered k.taken (records.Switch mark ∷ queue) = subst (λ o. AreNumbered k.taken (with_work o queue)) is k.numbered in
       let rise : RiseFrom logs.base (mark ∷ switches_in queue) = subst (λ o. RiseFrom logs.base (coming o (switches_in queue))) is m.rising in
-      let bases : base_in logs.before ++ logs.base ∷ mark ∷ switches_in queue ≡ m.earlier ++ images.tick ∷ round_tick images.round = subst (λ o. base_in logs.before ++ logs.base ∷ coming o (switches_in queue) ≡ m.earlier ++ images.tick ∷ round_tick images.round) is m.bases in
+      let bases : base_in logs.before ++ logs.base ∷ mark ∷ switches_in queue
+      ≡ m.earlier ++ images.tick ∷ round_tick images.round = subst
+      (λ o. base_in logs.before ++ logs.base ∷ coming o (switches_in queue) ≡ m.earlier ++ images.tick ∷ round_tick images.round) is m.bases in
       let done = bases_done logs.before logs.base mark images.tick (switches_in queue) m.earlier images.round bases in
       let kept : FollowsFrom ticks logs.base logs.kept = follows_front ticks logs.base logs.kept logs.pending f.taken in
       record {
@@ -148,7 +157,8 @@ module _ (first : List ℕ) (ticks : List (List Action)) (acknowledged : ℕ) (i
         };
       }
 
-  going_on_keeps : (queue : List Record) (next : Logs) (left : List Record) → IsKept first ticks acknowledged images logs queue → GoesOn logs queue next left → IsKept first ticks acknowledged images next left
+  going_on_keeps : (queue : List Record) (next : Logs) (left : List Record) → IsKept first ticks acknowledged images logs queue
+      → GoesOn logs queue next left → IsKept first ticks acknowledged images next left
   going_on_keeps queue next left k (inl same) =
       subst (λ l. IsKept first ticks acknowledged images l left) (sym same.0) (subst (λ q. IsKept first ticks acknowledged images logs q) (sym same.1) k)
   going_on_keeps queue next left k (inr (inl t)) =
@@ -156,15 +166,18 @@ module _ (first : List ℕ) (ticks : List (List Action)) (acknowledged : ℕ) (i
   going_on_keeps queue next left k (inr (inr t)) =
       subst (λ l. IsKept first ticks acknowledged images l left) (sym t.is) (keeps_switch_begun t.tick left (subst (λ q. IsKept first ticks acknowledged images logs q) t.in_front k) t.idle)
 
-  switching_keeps : (queue : List Record) (next : Logs) (left : List Record) → IsKept first ticks acknowledged images logs queue → EndsSwitch logs queue next left → IsKept first ticks acknowledged images next left
+  switching_keeps : (queue : List Record) (next : Logs) (left : List Record) → IsKept first ticks acknowledged images logs queue
+      → EndsSwitch logs queue next left → IsKept first ticks acknowledged images next left
   switching_keeps queue next left k s =
-      subst (λ l. IsKept first ticks acknowledged images l left) (sym s.is) (subst (λ q. IsKept first ticks acknowledged images (switched_to logs s.tick) q) (sym s.queue_is) (keeps_switched s.tick queue k s.in_work))
+      subst (λ l. IsKept first ticks acknowledged images l left) (sym s.is)
+      (subst (λ q. IsKept first ticks acknowledged images (switched_to logs s.tick) q) (sym s.queue_is) (keeps_switched s.tick queue k s.in_work))
 
   -- if a group is in work, the segment has with it all ticks before the queue
   group_taken : (queue : List Record) (k : IsKept first ticks acknowledged images logs queue) → 1 ≤ length logs.pending → logs.base + length (logs.kept ++ logs.pending) ≡ k.taken
   group_taken queue k some = elim k.has [ inl e ↦ e | inr h ↦ absurd (omega (arith, some, ap length h.0)) ]
 
-  acknowledging_keeps : (queue : List Record) (next : Logs) (left : List Record) (tick : ℕ) → IsKept first ticks acknowledged images logs queue → Acknowledges logs queue next left tick → IsKept first ticks (max acknowledged tick) images next left
+  acknowledging_keeps : (queue : List Record) (next : Logs) (left : List Record) (tick : ℕ)
+      → IsKept first ticks acknowledged images logs queue → Acknowledges logs queue next left tick → IsKept first ticks (max acknowledged tick) images next left
   acknowledging_keeps queue next left tick k a =
       let f = k.logs_follow in
       let m = k.follow_marks in
@@ -176,7 +189,9 @@ module _ (first : List ℕ) (ticks : List (List Action)) (acknowledged : ℕ) (i
         worlds = k.worlds;
         logs_follow = record {
           taken = subst (FollowsFrom ticks logs.base) same f.taken;
-          acknowledges = reached_max acknowledged tick (logs.base + length (logs.kept ++ logs.pending)) images.tick (reached_more acknowledged (logs.base + length logs.kept) (logs.base + length (logs.kept ++ logs.pending)) images.tick f.acknowledges more) (inl (omega (arith, a.tick_is)));
+          acknowledges =
+              reached_max acknowledged tick (logs.base + length (logs.kept ++ logs.pending)) images.tick
+              (reached_more acknowledged (logs.base + length logs.kept) (logs.base + length (logs.kept ++ logs.pending)) images.tick f.acknowledges more) (inl (omega (arith, a.tick_is)));
           before = f.before;
           switch = subst (IsSwitchOf images.tick (with_group_kept logs)) (sym a.no_switch) tt;
         };
@@ -191,7 +206,8 @@ module _ (first : List ℕ) (ticks : List (List Action)) (acknowledged : ℕ) (i
       } in
       subst (λ l. IsKept first ticks (max acknowledged tick) images l left) (sym a.is) (subst (λ q. IsKept first ticks (max acknowledged tick) images (with_group_kept logs) q) (sym a.queue_is) after)
 
-  pub log_step_keeps : (queue : List Record) (given : LogAnswer) (next : Logs) (left : List Record) → IsKept first ticks acknowledged images logs queue → LogsStep logs queue given next left → IsKept first ticks (acknowledged_after acknowledged given) images next left
+  pub log_step_keeps : (queue : List Record) (given : LogAnswer) (next : Logs) (left : List Record)
+      → IsKept first ticks acknowledged images logs queue → LogsStep logs queue given next left → IsKept first ticks (acknowledged_after acknowledged given) images next left
   log_step_keeps queue answer.Idle next left k s = going_on_keeps queue next left k (inl (s.2, s.3))
   log_step_keeps queue answer.Working next left k (inl s) = going_on_keeps queue next left k s
   log_step_keeps queue answer.Working next left k (inr s) = switching_keeps queue next left k s
@@ -231,21 +247,26 @@ module _ (first : List ℕ) (ticks : List (List Action)) (acknowledged : ℕ) (i
         queued = record {
           taken = tick;
           some_taken = omega (arith, n.0, ap length rest, length-append (ticks_in front) (ticks_in behind), length-drop k.taken ticks, k.some_taken);
-          left = ap (λ i. drop i ticks) n.0 ∙ sym (drop-drop (length (ticks_in front)) k.taken ticks) ∙ ap (drop (length (ticks_in front))) rest ∙ drop_at (ticks_in front) (ticks_in behind) (length (ticks_in front)) refl;
+          left =
+              ap (λ i. drop i ticks) n.0 ∙ sym (drop-drop (length (ticks_in front)) k.taken ticks) ∙ ap
+              (drop (length (ticks_in front))) rest ∙ drop_at (ticks_in front) (ticks_in behind) (length (ticks_in front)) refl;
           numbered = subst (λ o. AreNumbered tick (with_work o (records.Switch tick ∷ behind))) (sym idle.1) (refl, n.1);
           has = subst (λ o. HasUpTo logs tick images.tick (with_work o (records.Switch tick ∷ behind))) (sym idle.1) (inr (idle.0, omega (arith, end, idle_count logs idle.0), opened, tt));
         };
       }
 
   -- with the queue as it was before the cover
-  at_switch : (queue : List Record) (tick : ℕ) (taken left : List Record) → IsKept first ticks acknowledged images logs queue → (c : Covers logs queue tick taken left) → IsKept first ticks acknowledged images logs (taken ++ records.Switch tick ∷ c.behind)
+  at_switch : (queue : List Record) (tick : ℕ) (taken left : List Record) → IsKept first ticks acknowledged images logs queue
+      → (c : Covers logs queue tick taken left) → IsKept first ticks acknowledged images logs (taken ++ records.Switch tick ∷ c.behind)
   at_switch queue tick taken left k c = subst (λ q. IsKept first ticks acknowledged images logs q) (c.in_front ∙ ap (λ l. taken ++ l) c.next) k
 
-  covers_keep : (queue : List Record) (tick : ℕ) (taken left : List Record) → IsKept first ticks acknowledged images logs queue → tick ≤ images.tick → Covers logs queue tick taken left → IsKept first ticks (max acknowledged tick) images logs left
+  covers_keep : (queue : List Record) (tick : ℕ) (taken left : List Record) → IsKept first ticks acknowledged images logs queue
+      → tick ≤ images.tick → Covers logs queue tick taken left → IsKept first ticks (max acknowledged tick) images logs left
   covers_keep queue tick taken left k opened c =
       subst (λ q. IsKept first ticks (max acknowledged tick) images logs q) (sym c.next) (keeps_covered tick taken c.behind (at_switch queue tick taken left k c) opened c.idle)
 
-  pub cover_keeps : (queue : List Record) (tick : ℕ) (given : LogAnswer) (left : List Record) → IsKept first ticks acknowledged images logs queue → tick ≤ images.tick → CoverStep logs queue tick given left
+  pub cover_keeps : (queue : List Record) (tick : ℕ) (given : LogAnswer) (left : List Record)
+      → IsKept first ticks acknowledged images logs queue → tick ≤ images.tick → CoverStep logs queue tick given left
       → IsKept first ticks (acknowledged_after acknowledged given) images logs left
   cover_keeps queue tick answer.Idle left k opened s = subst (λ q. IsKept first ticks acknowledged images logs q) (sym s) k
   cover_keeps queue tick answer.Working left k opened s =
@@ -254,7 +275,8 @@ module _ (first : List ℕ) (ticks : List (List Action)) (acknowledged : ℕ) (i
       subst (λ n. IsKept first ticks (max acknowledged n) images logs left) (sym s.3) (covers_keep queue tick s.0 left k opened s.1)
   cover_keeps queue tick answer.Down left k opened s = subst (λ q. IsKept first ticks acknowledged images logs q) (sym s) k
 
-  pub cover_receipt_is_exact : (queue : List Record) (tick : ℕ) (given : LogAnswer) (left : List Record) → IsKept first ticks acknowledged images logs queue → CoverStep logs queue tick given left → ReceiptIs given ticks left
+  pub cover_receipt_is_exact : (queue : List Record) (tick : ℕ) (given : LogAnswer) (left : List Record)
+      → IsKept first ticks acknowledged images logs queue → CoverStep logs queue tick given left → ReceiptIs given ticks left
   cover_receipt_is_exact queue tick answer.Idle left k s = tt
   cover_receipt_is_exact queue tick answer.Working left k s = tt
   cover_receipt_is_exact queue tick (answer.Acked number) left k s =
@@ -278,7 +300,8 @@ module _ (first : List ℕ) (ticks : List (List Action)) (acknowledged : ℕ) (i
 
   -- ---- the number in a receipt
 
-  pub receipt_is_exact : (queue : List Record) (given : LogAnswer) (next : Logs) (left : List Record) → IsKept first ticks acknowledged images logs queue → LogsStep logs queue given next left → ReceiptIs given ticks left
+  pub receipt_is_exact : (queue : List Record) (given : LogAnswer) (next : Logs) (left : List Record)
+      → IsKept first ticks acknowledged images logs queue → LogsStep logs queue given next left → ReceiptIs given ticks left
   receipt_is_exact queue answer.Idle next left k s = tt
   receipt_is_exact queue answer.Working next left k s = tt
   receipt_is_exact queue (answer.Acked tick) next left k a =

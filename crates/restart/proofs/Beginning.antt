@@ -48,7 +48,10 @@ pub recovery_begins : StartEventsKeep Takes → (first : List ℕ) (ticks : List
     (images_begun (nat_lt r.from r.tick) r.tick (Newest (recovered_images r image_a image_b))) (InStart (recovered_start r log_a log_b)) []
 recovery_begins begins first ticks acknowledged r image_a image_b log_a log_b content some s built =
     let count : length (take r.tick ticks) ≡ r.tick = length-take-le r.tick ticks s.world.ended in
-    let at : IsWorldAt first (take r.tick ticks) r.tick r.words = record { ended = omega (arith, count); words_are = ap (after_ticks first) (take_all r.tick (take r.tick ticks) (omega (arith, count))) ∙ s.world.words_are } in
+    let at : IsWorldAt first (take r.tick ticks) r.tick r.words = record {
+      ended = omega (arith, count);
+      words_are = ap (after_ticks first) (take_all r.tick (take r.tick ticks) (omega (arith, count))) ∙ s.world.words_are;
+    } in
     record {
       store = built_follows first (take r.tick ticks) r.tick r.words (nat_lt r.from r.tick) content (Newest (recovered_images r image_a image_b)) s.whole at refl built;
       phase = recovered_phase begins first ticks acknowledged r image_a image_b log_a log_b some s (nat_lt r.from r.tick) refl;

@@ -17,7 +17,8 @@ all_true (suc n) (suc i) e = all_true n i e
 covers_all : (words image : List ℕ) → Covers image (all_touched words [])
 covers_all words image = λ i e. absurd (all_true (length words) i e)
 
-pub built_follows : (first : List ℕ) (ticks : List (List Action)) (tick : ℕ) (words : List ℕ) (round : Bool) (content : Content) (images : ImageFiles) → length words ≡ length first → IsWorldAt first ticks tick words → round_in images ≡ None → IsBuilt words round content
+pub built_follows : (first : List ℕ) (ticks : List (List Action)) (tick : ℕ) (words : List ℕ) (round : Bool) (content : Content)
+    (images : ImageFiles) → length words ≡ length first → IsWorldAt first ticks tick words → round_in images ≡ None → IsBuilt words round content
     → StoreFollowsImages first ticks content (images_begun round tick images)
 built_follows first ticks tick words true content (NoneYet images) whole at none s = mark_follows first ticks tick [] (all_touched words []) content whole at (covers_all words []) s
 built_follows first ticks tick words true content (Newest images) whole at none s = mark_follows first ticks tick images.words (all_touched words []) content whole at (covers_all words images.words) s

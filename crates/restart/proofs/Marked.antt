@@ -14,7 +14,8 @@ use Rattle.restart.specs.Rounds.{words_left, StoreFollows, StoreFollowsImages, w
 
 -- ---- a mark
 
-first_word : (entry : Option ℕ) (newest : List ℕ) (word : ℕ) → (Some entry ≡ Some (Some word)) ⊎ ((Some entry ≡ Some None) × (slice_get newest 0 ≡ Some word)) → word_of (taken_of entry) (get_or newest 0 0) ≡ word
+first_word : (entry : Option ℕ) (newest : List ℕ) (word : ℕ) → (Some entry ≡ Some (Some word))
+    ⊎ ((Some entry ≡ Some None) × (slice_get newest 0 ≡ Some word)) → word_of (taken_of entry) (get_or newest 0 0) ≡ word
 first_word (Some v) newest word (inl e) = cc
 first_word None newest word (inl e) = absurd cc
 first_word (Some v) newest word (inr e) = (let no = e.0 in absurd cc)
@@ -35,7 +36,8 @@ mark_words (entry ∷ left) (word ∷ live) newest l h =
     (λ i w at. elim (h (suc i) w at) [ inl e ↦ inl e | inr e ↦ inr (e.0, sym (get_past_one newest i) ∙ e.1) ]) in
     ap (λ w. w ∷ words_left left (drop 1 newest)) (first_word entry newest word (h 0 word refl)) ∙ ap (λ l. word ∷ l) rest
 
-pub mark_follows : (first : List ℕ) (ticks : List (List Action)) (tick : ℕ) (newest : List ℕ) (old new : Content) → length old.live ≡ length first → IsWorldAt first ticks tick old.live → Covers newest old → Marks old new
+pub mark_follows : (first : List ℕ) (ticks : List (List Action)) (tick : ℕ) (newest : List ℕ) (old new : Content)
+    → length old.live ≡ length first → IsWorldAt first ticks tick old.live → Covers newest old → Marks old new
     → StoreFollows first ticks new newest (Some (record { tick = tick; taken = [] }))
 mark_follows first ticks tick newest old new all at covers m = (
   old.live,
@@ -49,7 +51,8 @@ mark_follows first ticks tick newest old new all at covers m = (
 
 -- ---- writes
 
-writes_store : (first : List ℕ) (ticks : List (List Action)) (old new : Content) (newest : List ℕ) (round : Option Round) → new.left ≡ old.left → ((image : List ℕ) → Covers image old → Covers image new)
+writes_store : (first : List ℕ) (ticks : List (List Action)) (old new : Content) (newest : List ℕ) (round : Option Round)
+    → new.left ≡ old.left → ((image : List ℕ) → Covers image old → Covers image new)
     → StoreFollows first ticks old newest round → StoreFollows first ticks new newest round
 writes_store first ticks old new newest None left covers s = (left ∙ s.0, covers newest s.1)
 writes_store first ticks old new newest (Some round) left covers s =
@@ -61,10 +64,12 @@ writes_follow first ticks old new images = writes_store first ticks old new (wor
 
 -- ---- ticks
 
-ticks_store : (first : List ℕ) (ticks more : List (List Action)) (content : Content) (newest : List ℕ) (round : Option Round) → StoreFollows first ticks content newest round → StoreFollows first (ticks ++ more) content newest round
+ticks_store : (first : List ℕ) (ticks more : List (List Action)) (content : Content) (newest : List ℕ) (round : Option Round)
+    → StoreFollows first ticks content newest round → StoreFollows first (ticks ++ more) content newest round
 ticks_store first ticks more content newest None s = s
 ticks_store first ticks more content newest (Some round) s =
     (s.0, record { ended = omega (arith, s.1.ended, length-append ticks more); words_are = ap (after_ticks first) (take-append-le round.tick ticks more s.1.ended) ∙ s.1.words_are }, s.2)
 
-pub ticks_follow : (first : List ℕ) (ticks more : List (List Action)) (content : Content) (images : ImageFiles) → StoreFollowsImages first ticks content images → StoreFollowsImages first (ticks ++ more) content images
+pub ticks_follow : (first : List ℕ) (ticks more : List (List Action)) (content : Content) (images : ImageFiles)
+    → StoreFollowsImages first ticks content images → StoreFollowsImages first (ticks ++ more) content images
 ticks_follow first ticks more content images = ticks_store first ticks more content (words_of images) (round_in images)

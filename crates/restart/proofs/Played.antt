@@ -25,7 +25,8 @@ ok_injective v w e = cc
 
 -- the world after one more tick
 one_more : ((world : List ℕ) (before after : List Action) → after_actions world (before ++ after) ≡ and_then (after_actions world before) (λ next. after_actions next after))
-    → (first : List ℕ) (ticks : List (List Action)) (tick : List Action) (last live : List ℕ) → after_ticks first ticks ≡ Ok last → after_actions last tick ≡ Ok live → after_ticks first (ticks ++ tick ∷ []) ≡ Ok live
+    → (first : List ℕ) (ticks : List (List Action)) (tick : List Action) (last live : List ℕ) → after_ticks first ticks ≡ Ok last
+    → after_actions last tick ≡ Ok live → after_ticks first (ticks ++ tick ∷ []) ≡ Ok live
 one_more append first ticks tick last live e h =
     ap (after_actions first) (flat_map-append (λ t. t) ticks (tick ∷ []) ∙ ap (λ l. flat_map (λ t. t) ticks ++ l) (append-nil tick))
     ∙ append first (flat_map (λ t. t) ticks) tick
@@ -82,7 +83,8 @@ all_phase first ticks acknowledged (NoneYet images) logs none phase = absurd pha
 all_phase first ticks acknowledged (Newest images) logs none phase =
     record {
       worlds = phase.worlds;
-      logs_follow = record { taken = phase.logs_follow.taken; acknowledges = kept_all first ticks acknowledged images logs none phase; before = phase.logs_follow.before; switch = phase.logs_follow.switch };
+      logs_follow =
+          record { taken = phase.logs_follow.taken; acknowledges = kept_all first ticks acknowledged images logs none phase; before = phase.logs_follow.before; switch = phase.logs_follow.switch };
       follow_marks = phase.follow_marks;
       queued = phase.queued;
     }

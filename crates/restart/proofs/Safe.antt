@@ -9,9 +9,11 @@ use Rattle.recovery.specs.Start.{LawOfStart, LawOfFirstStart}
 use Rattle.recovery.specs.Events.{switches_in}
 use Rattle.restart.specs.InStep.{HasPhase, IsSafe}
 
-module _ (image_a image_b log_a log_b : List ℕ → Type 0) (after_start : LawOfRecovery image_a image_b log_a log_b) (in_start : LawOfStart image_a image_b log_a log_b) (before_image : LawOfFirstStart image_a image_b log_a log_b)
+module _ (image_a image_b log_a log_b : List ℕ → Type 0) (after_start : LawOfRecovery image_a image_b log_a log_b)
+    (in_start : LawOfStart image_a image_b log_a log_b) (before_image : LawOfFirstStart image_a image_b log_a log_b)
     (first : List ℕ) (ticks : List (List Action)) (acknowledged : ℕ) where
-  pub safe_in : (images : ImageFiles) (journal : Journal) (queue : List Record) → HasPhase first ticks acknowledged images journal queue → ImageFilesAre (length first) images image_a image_b → JournalIs journal log_a log_b
+  pub safe_in : (images : ImageFiles) (journal : Journal) (queue : List Record)
+      → HasPhase first ticks acknowledged images journal queue → ImageFilesAre (length first) images image_a image_b → JournalIs journal log_a log_b
       → IsSafe images image_a image_b log_a log_b first ticks acknowledged
   safe_in (NoneYet images) (InStart start) queue phase are is = (before_image first images start phase.0.follows are is, phase.0.no_ticks, phase.0.none_acknowledged)
   safe_in (NoneYet images) (Writing logs) queue phase are is = absurd phase

@@ -39,7 +39,8 @@ unfolding is_newest
 newest_none after = refl
 
 -- the first round stays in work until its image is opened
-still_in_work : (cells : ℕ) (old new : Content) (given : ImageAnswer) (images : FirstImages) (next : ImageFiles) (after : FirstImages) → StepsImages Takes cells (NoneYet images) given next old new → next ≡ NoneYet after
+still_in_work : (cells : ℕ) (old new : Content) (given : ImageAnswer) (images : FirstImages) (next : ImageFiles)
+    (after : FirstImages) → StepsImages Takes cells (NoneYet images) given next old new → next ≡ NoneYet after
     → (round : Round) × (images.round ≡ Some round) → (round : Round) × (after.round ≡ Some round)
 still_in_work cells old new image_answer.Idle images next after s e r = (r.0, ap round_in (sym e ∙ s.1) ∙ r.1)
 still_in_work cells old new image_answer.Working images next after s e r = elim s.2 [
@@ -66,18 +67,22 @@ start_tick : {tick : ℕ} {round : Option Round} {r : Round} → IfSome round (�
 start_tick {tick} {round} {r} h e = (let g : r.tick ≡ tick = subst (λ (o : Option Round). IfSome o (λ (some : Round). some.tick ≡ tick)) e h in g)
 
 -- with no round in work the newest image is of the start's tick
-caught : (first : List ℕ) (ticks : List (List Action)) (acknowledged from : ℕ) (old new : Content) (given : ImageAnswer) (images : Images) (start : Start) (next : ImageFiles) (after : Images) → StepsImages Takes (length first) (Newest images) given next old new → next ≡ Newest after
+caught : (first : List ℕ) (ticks : List (List Action)) (acknowledged from : ℕ) (old new : Content) (given : ImageAnswer)
+    (images : Images) (start : Start) (next : ImageFiles) (after : Images) → StepsImages Takes (length first) (Newest images) given next old new → next ≡ Newest after
     → after.round ≡ None → IsStarting first ticks acknowledged images from start → (images.round ≡ None → images.tick ≡ start.tick) → after.tick ≡ start.tick
 caught first ticks acknowledged from old new image_answer.Idle images start next after s e none f h = tick_same after images (sym e ∙ s.1) ∙ h (sym (ap round_in (sym e ∙ s.1)) ∙ none)
 caught first ticks acknowledged from old new image_answer.Working images start next after s e none f h = elim s.2 [
   | inl same ↦ tick_same after images (sym e ∙ same.0) ∙ h (sym (ap round_in (sym e ∙ same.0)) ∙ none)
   | inr cell ↦ absurd (none_open cell.0 images.words images.round s.0 s.1 (sym (ap round_in (sym e ∙ cell.2)) ∙ none))
 ]
-caught first ticks acknowledged from old new (image_answer.Opened tick) images start next after s e none f h = tick_same after (record { slot = other_slot images.slot; tick = s.0.tick; words = s.0.taken; before = Open images.tick images.words; round = None }) (sym e ∙ s.4) ∙ start_tick f.start_follows.round s.1
+caught first ticks acknowledged from old new (image_answer.Opened tick) images start next after s e none f h =
+    tick_same
+    after (record { slot = other_slot images.slot; tick = s.0.tick; words = s.0.taken; before = Open images.tick images.words; round = None }) (sym e ∙ s.4) ∙ start_tick f.start_follows.round s.1
 caught first ticks acknowledged from old new image_answer.Down images start next after s e none f h = tick_same after images (sym e ∙ s.2) ∙ h (sym (ap round_in (sym e ∙ s.2)) ∙ none)
 
 -- until the first image is opened nothing is acknowledged
-still_none : (cells : ℕ) (old new : Content) (acknowledged : ℕ) (given : ImageAnswer) (images : FirstImages) (next : ImageFiles) (after : FirstImages) → StepsImages Takes cells (NoneYet images) given next old new → next ≡ NoneYet after
+still_none : (cells : ℕ) (old new : Content) (acknowledged : ℕ) (given : ImageAnswer) (images : FirstImages) (next : ImageFiles)
+    (after : FirstImages) → StepsImages Takes cells (NoneYet images) given next old new → next ≡ NoneYet after
     → acknowledged_opened acknowledged given ≡ acknowledged
 still_none cells old new acknowledged image_answer.Idle images next after s e = refl
 still_none cells old new acknowledged image_answer.Working images next after s e = refl
@@ -86,7 +91,8 @@ still_none cells old new acknowledged (image_answer.Opened tick) images next aft
 still_none cells old new acknowledged image_answer.Down images next after s e = refl
 
 module _ (kept_by : EventsKeep Takes) (started_by : StartEventsKeep Takes) (first : List ℕ) (ticks : List (List Action)) (acknowledged : ℕ) where
-  image_phase : (images : ImageFiles) (journal : Journal) (queue : List Record) (given : ImageAnswer) (next : ImageFiles) (old new : Content) → StepsImages Takes (length first) images given next old new
+  image_phase : (images : ImageFiles) (journal : Journal) (queue : List Record) (given : ImageAnswer) (next : ImageFiles)
+      (old new : Content) → StepsImages Takes (length first) images given next old new
       → StoreFollowsImages first ticks new next → HasPhase first ticks acknowledged images journal queue → HasPhase first ticks (acknowledged_opened acknowledged given) next journal queue
   image_phase (NoneYet images) (Writing logs) queue given next old new s store phase = absurd phase
   image_phase (Newest images) (Writing logs) queue given next old new s store phase =
@@ -119,14 +125,17 @@ module _ (kept_by : EventsKeep Takes) (started_by : StartEventsKeep Takes) (firs
         | inr k ↦ subst (λ i. HasPhase first ticks (acknowledged_opened acknowledged given) i (InStart start) queue) (sym k.1) (
           record {
             from = 0;
-            starting = subst (λ t. IsStarting first t (acknowledged_opened acknowledged given) k.0 0 start) (sym p.no_ticks) (subst (λ a. IsStarting first [] (acknowledged_opened a given) k.0 0 start) (sym p.none_acknowledged) k.4);
+            starting =
+                subst (λ t. IsStarting first t (acknowledged_opened acknowledged given) k.0 0 start) (sym p.no_ticks)
+                (subst (λ a. IsStarting first [] (acknowledged_opened a given) k.0 0 start) (sym p.none_acknowledged) k.4);
             caught_up = λ none. k.2 ∙ sym p.follows.at_zero;
           },
           phase.1,
         )
       ]
 
-  pub image_step : (images : ImageFiles) (journal : Journal) (queue : List Record) (given : ImageAnswer) (next : ImageFiles) (old new : Content) → StepsImages Takes (length first) images given next old new
+  pub image_step : (images : ImageFiles) (journal : Journal) (queue : List Record) (given : ImageAnswer) (next : ImageFiles)
+      (old new : Content) → StepsImages Takes (length first) images given next old new
       → InStep first ticks acknowledged old images journal queue → InStep first ticks (acknowledged_opened acknowledged given) new next journal queue
   image_step images journal queue given next old new s w =
       let store = step_follows first ticks images given next old new s w.store in
@@ -176,8 +185,10 @@ module _ (kept_by : EventsKeep Takes) (started_by : StartEventsKeep Takes) (firs
             (subst (λ a. IsKept first ticks a images (started start.tick) []) (sym none_more) k.1))
       ]
 
-  log_phase : (images : ImageFiles) (journal : Journal) (left : ℕ) (queue : List Record) (given : LogAnswer) (next : LogPlace) (queue_left : List Record) → 1 ≤ length first → NoneWaitedFor journal images
-      → StepIn journal left queue given next queue_left → HasPhase first ticks acknowledged images journal queue → HasPhase first ticks (acknowledged_after acknowledged given) images next.journal queue_left
+  log_phase : (images : ImageFiles) (journal : Journal) (left : ℕ) (queue : List Record) (given : LogAnswer) (next : LogPlace)
+      (queue_left : List Record) → 1 ≤ length first → NoneWaitedFor journal images
+      → StepIn journal left queue given next queue_left → HasPhase first ticks acknowledged images journal queue
+      → HasPhase first ticks (acknowledged_after acknowledged given) images next.journal queue_left
   log_phase (NoneYet images) (Writing logs) left queue given next queue_left some waits s phase = absurd phase
   log_phase (NoneYet images) (InStart start) left queue given next queue_left some waits s phase =
       absurd (let g : None ≡ Some phase.0.in_work.0 = sym waits ∙ phase.0.in_work.1 in cc)
@@ -187,7 +198,8 @@ module _ (kept_by : EventsKeep Takes) (started_by : StartEventsKeep Takes) (firs
       subst (λ (p : LogPlace). HasPhase first ticks (acknowledged_after acknowledged given) (Newest images) p.journal queue_left) (sym s.1)
       (kept_by.log_step first ticks acknowledged images logs queue given s.0 queue_left phase s.2)
 
-  pub log_step : (content : Content) (images : ImageFiles) (place : LogPlace) (queue : List Record) (given : LogAnswer) (next : LogPlace) (queue_left : List Record) → 1 ≤ length first → NoneWaitedFor place.journal images
+  pub log_step : (content : Content) (images : ImageFiles) (place : LogPlace) (queue : List Record) (given : LogAnswer)
+      (next : LogPlace) (queue_left : List Record) → 1 ≤ length first → NoneWaitedFor place.journal images
       → JournalStep place queue given next queue_left → InStep first ticks acknowledged content images place.journal queue
       → InStep first ticks (acknowledged_after acknowledged given) content images next.journal queue_left
   log_step content images place queue given next queue_left some waits s w =
@@ -195,7 +207,8 @@ module _ (kept_by : EventsKeep Takes) (started_by : StartEventsKeep Takes) (firs
 
 -- ---- a cover
 
-pub cover : EventsKeep Takes → (first : List ℕ) (ticks : List (List Action)) (acknowledged : ℕ) (content : Content) (images : Images) (logs : Logs) (queue : List Record) (tick : ℕ) (given : LogAnswer) (left : List Record)
+pub cover : EventsKeep Takes → (first : List ℕ) (ticks : List (List Action)) (acknowledged : ℕ) (content : Content)
+    (images : Images) (logs : Logs) (queue : List Record) (tick : ℕ) (given : LogAnswer) (left : List Record)
     → tick ≤ images.tick → CoverStep logs queue tick given left → InStep first ticks acknowledged content (Newest images) (Writing logs) queue
     → InStep first ticks (acknowledged_after acknowledged given) content (Newest images) (Writing logs) left
 cover kept_by first ticks acknowledged content images logs queue tick given left opened s w =

@@ -23,7 +23,8 @@ whole_front front rest whole e l = sym (take_at front rest (length front) refl) 
 
 -- ---- a cell is taken
 
-head_taken : (left : List (Option ℕ)) (cell : Taken) (newest : List ℕ) → Some cell ≡ option_map taken_of (slice_get left 0) → words_left left newest ≡ word_of cell (get_or newest 0 0) ∷ words_left (drop 1 left) (drop 1 newest)
+head_taken : (left : List (Option ℕ)) (cell : Taken) (newest : List ℕ) → Some cell ≡ option_map taken_of (slice_get left 0)
+    → words_left left newest ≡ word_of cell (get_or newest 0 0) ∷ words_left (drop 1 left) (drop 1 newest)
 head_taken [] cell newest e = absurd (let h = e in cc)
 head_taken (entry ∷ left) cell newest e =
     let same : taken_of entry ≡ cell = cc in
@@ -48,11 +49,13 @@ takes_round cells newest taken marked old new cell t r =
       covers = subst (Covers marked) (sym t.rest) r.covers;
     }
 
-takes_store : (first : List ℕ) (ticks : List (List Action)) (old new : Content) (cell : Taken) (newest : List ℕ) (round : Option Round) → Takes old (Some cell) new → StoreFollows first ticks old newest round → StoreFollows first ticks new newest (option_map (with_cell cell newest) round)
+takes_store : (first : List ℕ) (ticks : List (List Action)) (old new : Content) (cell : Taken) (newest : List ℕ)
+    (round : Option Round) → Takes old (Some cell) new → StoreFollows first ticks old newest round → StoreFollows first ticks new newest (option_map (with_cell cell newest) round)
 takes_store first ticks old new cell newest None t s = (let no : Some cell ≡ None = t.gives ∙ ap (λ l. option_map taken_of (slice_get l 0)) s.0 in absurd cc)
 takes_store first ticks old new cell newest (Some round) t s = (s.0, s.1, takes_round (length first) newest round.taken s.0 old new cell t s.2)
 
-taken_follows : (first : List ℕ) (ticks : List (List Action)) (old new : Content) (cell : Taken) (images : ImageFiles) → Takes old (Some cell) new → StoreFollowsImages first ticks old images → StoreFollowsImages first ticks new (with_taken cell images)
+taken_follows : (first : List ℕ) (ticks : List (List Action)) (old new : Content) (cell : Taken) (images : ImageFiles)
+    → Takes old (Some cell) new → StoreFollowsImages first ticks old images → StoreFollowsImages first ticks new (with_taken cell images)
 taken_follows first ticks old new cell (NoneYet images) t s = takes_store first ticks old new cell [] images.round t s
 taken_follows first ticks old new cell (Newest images) t s = takes_store first ticks old new cell images.words images.round t s
 
@@ -69,24 +72,28 @@ append_nothing (x ∷ front) rest e = append_nothing front rest (let h = e in cc
 taken_whole : (cells : ℕ) (newest taken marked : List ℕ) (content : Content) → IsRoundOver cells newest taken marked content → length taken ≡ cells → taken ≡ marked
 taken_whole cells newest taken marked content r full = whole_front taken (words_left content.left (drop (length taken) newest)) marked r.words (full ∙ sym r.whole)
 
-opened_store : (first : List ℕ) (ticks : List (List Action)) (content : Content) (newest : List ℕ) (round : Round) → length round.taken ≡ length first → StoreFollows first ticks content newest (Some round) → StoreFollows first ticks content round.taken None
+opened_store : (first : List ℕ) (ticks : List (List Action)) (content : Content) (newest : List ℕ) (round : Round)
+    → length round.taken ≡ length first → StoreFollows first ticks content newest (Some round) → StoreFollows first ticks content round.taken None
 opened_store first ticks content newest round full s =
     let same = taken_whole (length first) newest round.taken s.0 content s.2 full in
     let rest : words_left content.left (drop (length round.taken) newest) ≡ [] = append_nothing round.taken (words_left content.left (drop (length round.taken) newest)) (s.2.words ∙ sym same) in
     (none_left content.left (drop (length round.taken) newest) rest, subst (λ w. Covers w content) (sym same) s.2.covers)
 
-opened_follows : (first : List ℕ) (ticks : List (List Action)) (content : Content) (round : Round) (images : ImageFiles) → round_in images ≡ Some round → length round.taken ≡ length first → StoreFollowsImages first ticks content images
+opened_follows : (first : List ℕ) (ticks : List (List Action)) (content : Content) (round : Round) (images : ImageFiles)
+    → round_in images ≡ Some round → length round.taken ≡ length first → StoreFollowsImages first ticks content images
     → StoreFollowsImages first ticks content (with_opened round images)
 opened_follows first ticks content round (NoneYet images) is full s = opened_store first ticks content [] round full (subst (StoreFollows first ticks content []) is s)
 opened_follows first ticks content round (Newest images) is full s = opened_store first ticks content images.words round full (subst (StoreFollows first ticks content images.words) is s)
 
-missing_none : (first : List ℕ) (ticks : List (List Action)) (content : Content) (newest : List ℕ) (round : Option Round) (r : Round) → round ≡ Some r → content.left ≡ [] → StoreFollows first ticks content newest round → length r.taken ≡ length first
+missing_none : (first : List ℕ) (ticks : List (List Action)) (content : Content) (newest : List ℕ) (round : Option Round)
+    (r : Round) → round ≡ Some r → content.left ≡ [] → StoreFollows first ticks content newest round → length r.taken ≡ length first
 missing_none first ticks content newest round r is none s =
     let f : StoreFollows first ticks content newest (Some r) = subst (StoreFollows first ticks content newest) is s in
     let whole : r.taken ≡ f.0 = sym (append-nil r.taken) ∙ ap (λ l. r.taken ++ words_left l (drop (length r.taken) newest)) (sym none) ∙ f.2.words in
     ap length whole ∙ f.2.whole
 
-pub all_are_taken : (first : List ℕ) (ticks : List (List Action)) (content : Content) (images : ImageFiles) (round : Round) → round_in images ≡ Some round → content.left ≡ [] → StoreFollowsImages first ticks content images → length round.taken ≡ length first
+pub all_are_taken : (first : List ℕ) (ticks : List (List Action)) (content : Content) (images : ImageFiles) (round : Round)
+    → round_in images ≡ Some round → content.left ≡ [] → StoreFollowsImages first ticks content images → length round.taken ≡ length first
 all_are_taken first ticks content images round = missing_none first ticks content (words_of images) (round_in images) round
 
 -- ---- a step of the image keeper
@@ -95,7 +102,8 @@ module _ (first : List ℕ) (ticks : List (List Action)) where
   same_follows : (images next : ImageFiles) (old new : Content) → next ≡ images → new ≡ old → StoreFollowsImages first ticks old images → StoreFollowsImages first ticks new next
   same_follows images next old new i c s = subst (StoreFollowsImages first ticks new) (sym i) (subst (λ (k : Content). StoreFollowsImages first ticks k images) (sym c) s)
 
-  pub step_follows : (images : ImageFiles) (given : ImageAnswer) (next : ImageFiles) (old new : Content) → StepsImages Takes (length first) images given next old new → StoreFollowsImages first ticks old images → StoreFollowsImages first ticks new next
+  pub step_follows : (images : ImageFiles) (given : ImageAnswer) (next : ImageFiles) (old new : Content)
+      → StepsImages Takes (length first) images given next old new → StoreFollowsImages first ticks old images → StoreFollowsImages first ticks new next
   step_follows images answer.Idle next old new s f = same_follows images next old new s.1 s.2 f
   step_follows images answer.Working next old new s f = elim s.2 [
     | inl same ↦ same_follows images next old new same.0 same.1 f
@@ -105,7 +113,8 @@ module _ (first : List ℕ) (ticks : List (List Action)) where
   step_follows images answer.Down next old new s f = same_follows images next old new s.2 s.3 f
 
 -- the step by the content of the store that the keeper took from
-module _ {S : Type 0} (content : S → Content) (took : S → Option Taken → S → Type 0) (after_take : (old new : S) (given : Option Taken) → took old given new → Takes (content old) given (content new)) where
+module _ {S : Type 0} (content : S → Content) (took : S → Option Taken → S → Type 0)
+    (after_take : (old new : S) (given : Option Taken) → took old given new → Takes (content old) given (content new)) where
   pub steps_content : (cells : ℕ) (images : ImageFiles) (given : ImageAnswer) (next : ImageFiles) (old new : S)
       → StepsImages took cells images given next old new → StepsImages Takes cells images given next (content old) (content new)
   steps_content cells images answer.Idle next old new s = (s.0, s.1, ap content s.2)
@@ -156,12 +165,14 @@ step_ticks cells old new images answer.Down next s r e = (s.0, s.1, same_ticks s
 round_above : (first : List ℕ) (ticks : List (List Action)) (tick : ℕ) (round : Option Round) (r : Round) → round ≡ Some r → IsRoundOf first ticks tick round → tick < r.tick
 round_above first ticks tick round r is h = (let g : IsRoundOf first ticks tick (Some r) = subst (IsRoundOf first ticks tick) is h in g.0)
 
-round_store : (first : List ℕ) (ticks : List (List Action)) (tick : ℕ) (content : Content) (newest : List ℕ) (round : Option Round) → ((r : Round) → round ≡ Some r → tick < r.tick) → StoreFollows first ticks content newest round → IsRoundOf first ticks tick round
+round_store : (first : List ℕ) (ticks : List (List Action)) (tick : ℕ) (content : Content) (newest : List ℕ)
+    (round : Option Round) → ((r : Round) → round ≡ Some r → tick < r.tick) → StoreFollows first ticks content newest round → IsRoundOf first ticks tick round
 round_store first ticks tick content newest None above s = tt
 round_store first ticks tick content newest (Some round) above s =
     (above round refl, λ full. subst (IsWorldAt first ticks round.tick) (sym (taken_whole (length first) newest round.taken s.0 content s.2 full)) s.1)
 
-pub round_follows : (first : List ℕ) (ticks : List (List Action)) (images : Images) (given : ImageAnswer) (next : ImageFiles) (old new : Content) → StepsImages Takes (length first) (Newest images) given next old new → IsRoundOf first ticks images.tick images.round
+pub round_follows : (first : List ℕ) (ticks : List (List Action)) (images : Images) (given : ImageAnswer) (next : ImageFiles)
+    (old new : Content) → StepsImages Takes (length first) (Newest images) given next old new → IsRoundOf first ticks images.tick images.round
     → StoreFollowsImages first ticks new next → IsRoundOf first ticks images.tick (round_in next)
 round_follows first ticks images given next old new s h = round_store first ticks images.tick new (words_of next) (round_in next)
     (λ r e. let was = step_ticks (length first) old new (Newest images) given next s r e in let above = round_above first ticks images.tick images.round was.0 was.1 h in omega (arith, was.2, above))
@@ -169,7 +180,8 @@ round_follows first ticks images given next old new s h = round_store first tick
 ok_injective : (v w : List ℕ) → ◌≡◌ {A = Result (List ℕ) Refusal} (Ok v) (Ok w) → v ≡ w
 ok_injective v w e = cc
 
-first_store : (first : List ℕ) (content : Content) (newest : List ℕ) (round : Option Round) → ((r : Round) → round ≡ Some r → r.tick ≡ 0) → StoreFollows first [] content newest round → IsFirstRound first round
+first_store : (first : List ℕ) (content : Content) (newest : List ℕ) (round : Option Round)
+    → ((r : Round) → round ≡ Some r → r.tick ≡ 0) → StoreFollows first [] content newest round → IsFirstRound first round
 first_store first content newest None zero s = tt
 first_store first content newest (Some round) zero s =
     let zeros : s.0 ≡ first = ok_injective s.0 first (sym s.1.words_are ∙ ap (after_ticks first) (take_all round.tick [] (omega arith))) in
@@ -178,7 +190,8 @@ first_store first content newest (Some round) zero s =
 round_zero : (first : List ℕ) (round : Option Round) (r : Round) → round ≡ Some r → IsFirstRound first round → r.tick ≡ 0
 round_zero first round r is h = (let g : IsFirstRound first (Some r) = subst (IsFirstRound first) is h in g.0)
 
-pub first_round_follows : (first : List ℕ) (images : FirstImages) (given : ImageAnswer) (next : ImageFiles) (old new : Content) → StepsImages Takes (length first) (NoneYet images) given next old new → IsFirstRound first images.round
+pub first_round_follows : (first : List ℕ) (images : FirstImages) (given : ImageAnswer) (next : ImageFiles) (old new : Content)
+    → StepsImages Takes (length first) (NoneYet images) given next old new → IsFirstRound first images.round
     → StoreFollowsImages first [] new next → IsFirstRound first (round_in next)
 first_round_follows first images given next old new s h = first_store first new (words_of next) (round_in next)
     (λ r e. let was = step_ticks (length first) old new (NoneYet images) given next s r e in was.2 ∙ round_zero first images.round was.0 was.1 h)

@@ -9,7 +9,8 @@ use Rattle.world_ticks.specs.After.{and_then}
 use Rattle.image_files.specs.Image.{Image, image_of}
 use Rattle.action_log.specs.Segment.{Tick, joined, Segment, ClosedSegment, MalformedSegment, OpenSegment, IsSegment}
 use Rattle.action_log.proofs.ReadingLemmas.{reads_once}
-use Rattle.recovery.specs.Recovery.{Recovery, Recovers, Newest, newest, has_base, ticks_from, ticks_along, tail, words_after, recovery_of, recovery_from, recovery_with, replayed, is_bad_image, is_bad_segment}
+use Rattle.recovery.specs.Recovery.{Recovery, Recovers, Newest, newest, has_base, ticks_from, ticks_along, tail, words_after}
+use Rattle.recovery.specs.Recovery.{recovery_of, recovery_from, recovery_with, replayed, is_bad_image, is_bad_segment}
 use Rattle.recovery.proofs.Replay.{words_after-append}
 use Rattle.recovery.proofs.Starting.{not_based}
 use Rattle.salvage.specs.declared.log_part.LogPart.{LogPart}
@@ -144,11 +145,14 @@ record Reads (t : ℕ) (words : List ℕ) (formed : LogPart) (s : Segment) : Typ
 reads_closed : (t : ℕ) (words : List ℕ) (formed : LogPart) → Reads t words formed ClosedSegment
 reads_closed t words formed = record { accepted = refl; begins = λ u h. absurd cc; stands = inr refl }
 
-reads_groups : (t : ℕ) (words bytes : List ℕ) (formed part : LogPart) (k : IsKept bytes formed) (r : IsRefused t words (kept_log formed bytes) part) → Reads t words formed (OpenSegment t (joined r.kept))
+reads_groups : (t : ℕ) (words bytes : List ℕ) (formed part : LogPart) (k : IsKept bytes formed)
+    (r : IsRefused t words (kept_log formed bytes) part) → Reads t words formed (OpenSegment t (joined r.kept))
 reads_groups t words bytes formed part k r =
     let whole : segment_of formed k.list ≡ OpenSegment t r.list = reads_once (kept_log formed bytes) (segment_of formed k.list) (OpenSegment t r.list) k.reads r.segment in
     record {
-      accepted = from_accepted t words (OpenSegment t (joined r.kept)) (λ list is. subst (λ l. IsOk (words_after words l)) (let same : joined r.kept ≡ list = one_list t (joined r.kept) list is in same) r.accepted);
+      accepted =
+          from_accepted t words (OpenSegment t (joined r.kept))
+          (λ list is. subst (λ l. IsOk (words_after words l)) (let same : joined r.kept ≡ list = one_list t (joined r.kept) list is in same) r.accepted);
       begins = λ u h. begins_of u formed k.list ∙ ap (has_base u) whole ∙ h;
       stands = inl (eq-eqb t t refl);
     }
@@ -190,7 +194,8 @@ pub record Answers (a b : Image) (n : Recovery) (la lb : Segment) : Type 0 where
   pub tick_is : answer.tick ≡ n.tick + length (tail n.tick la lb)
   pub words_are : words_after n.words (tail n.tick la lb) ≡ Ok answer.words
 
-pub answers : (a b : Image) (n : Recovery) (la lb : Segment) → OnNewest a b n → is_bad_segment la ≡ false → is_bad_segment lb ≡ false → IsOk (words_after n.words (tail n.tick la lb)) → Answers a b n la lb
+pub answers : (a b : Image) (n : Recovery) (la lb : Segment) → OnNewest a b n → is_bad_segment la ≡ false
+    → is_bad_segment lb ≡ false → IsOk (words_after n.words (tail n.tick la lb)) → Answers a b n la lb
 answers a b n la lb on fa fb ok =
     let after = ok_words (words_after n.words (tail n.tick la lb)) ok in
     let same : tail on.image.tick la lb ≡ tail n.tick la lb = ap (λ t. tail t la lb) on.tick_is in
@@ -203,14 +208,16 @@ answers a b n la lb on fa fb ok =
     }
 
 -- another answer for the same files
-pub not_refused : (ia ib la lb : List ℕ) (n : Recovery) (sa sb : Segment) → IsSegment la sa → IsSegment lb sb → Answers (image_of ia) (image_of ib) n sa sb → (refusal : Refusal) → Recovers ia ib la lb (Err refusal) → ⊥
+pub not_refused : (ia ib la lb : List ℕ) (n : Recovery) (sa sb : Segment) → IsSegment la sa → IsSegment lb sb
+    → Answers (image_of ia) (image_of ib) n sa sb → (refusal : Refusal) → Recovers ia ib la lb (Err refusal) → ⊥
 not_refused ia ib la lb n sa sb ra rb x refusal e =
     let here : recovery_of (image_of ia) (image_of ib) sa sb ≡ Err refusal =
     subst (λ s. recovery_of (image_of ia) (image_of ib) s sb ≡ Err refusal) (reads_once la e.a sa e.reads_a ra)
     (subst (λ s. recovery_of (image_of ia) (image_of ib) e.a s ≡ Err refusal) (reads_once lb e.b sb e.reads_b rb) e.holds) in
     (let no : Ok x.answer ≡ Err refusal = sym x.is ∙ here in absurd cc)
 
-pub same_answer : (ia ib la lb : List ℕ) (n : Recovery) (sa sb : Segment) → IsSegment la sa → IsSegment lb sb → (x : Answers (image_of ia) (image_of ib) n sa sb) → (found : Recovery) → Recovers ia ib la lb (Ok found) → x.answer ≡ found
+pub same_answer : (ia ib la lb : List ℕ) (n : Recovery) (sa sb : Segment) → IsSegment la sa → IsSegment lb sb
+    → (x : Answers (image_of ia) (image_of ib) n sa sb) → (found : Recovery) → Recovers ia ib la lb (Ok found) → x.answer ≡ found
 same_answer ia ib la lb n sa sb ra rb x found e =
     let here : recovery_of (image_of ia) (image_of ib) sa sb ≡ Ok found =
     subst (λ s. recovery_of (image_of ia) (image_of ib) s sb ≡ Ok found) (reads_once la e.a sa e.reads_a ra)

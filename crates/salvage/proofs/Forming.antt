@@ -122,7 +122,8 @@ reads_before base words bytes formed part fits r =
     let same = take_kept formed bytes at fits (omega arith) within in
     subst (ReadsBefore base r.kept bytes) (sym r.part_is) (go (length (joined r.kept)) refl same.0 same.1)
   where
-    go : (n : ℕ) → length (joined r.kept) ≡ n → FIRST_GROUP + length (flat_map group_bytes r.kept) ≤ length bytes → take (FIRST_GROUP + length (flat_map group_bytes r.kept)) (kept_log formed bytes) ≡ take (FIRST_GROUP + length (flat_map group_bytes r.kept)) bytes
+    go : (n : ℕ) → length (joined r.kept) ≡ n → FIRST_GROUP + length (flat_map group_bytes r.kept) ≤ length bytes
+        → take (FIRST_GROUP + length (flat_map group_bytes r.kept)) (kept_log formed bytes) ≡ take (FIRST_GROUP + length (flat_map group_bytes r.kept)) bytes
         → ReadsBefore base r.kept bytes (part_before base (FIRST_GROUP + length (flat_map group_bytes r.kept)) n)
     go zero many inside same = record { is_kept = kept_nothing bytes; list_is = inl refl }
     go (suc n) many inside same = record {

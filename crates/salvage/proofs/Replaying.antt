@@ -64,8 +64,11 @@ refused_by base words bytes list segment accepted at ticks w ok err =
       group = w.group;
       later = w.later;
       split = w.split;
-      accepted = subst (λ l. IsOk (words_after words l)) front (front_accepted words (take ticks list) (drop ticks (take accepted list)) (subst (λ l. IsOk (words_after words l)) (front_of ticks accepted list w.few) ok));
-      refused = subst (λ l. IsErr (words_after words l)) (sym (front_of (accepted + 1) more list reach) ∙ taken) (front_refused words (take (accepted + 1) list) (drop (accepted + 1) (take more list)) err);
+      accepted =
+          subst (λ l. IsOk (words_after words l)) front
+          (front_accepted words (take ticks list) (drop ticks (take accepted list)) (subst (λ l. IsOk (words_after words l)) (front_of ticks accepted list w.few) ok));
+      refused =
+          subst (λ l. IsErr (words_after words l)) (sym (front_of (accepted + 1) more list reach) ∙ taken) (front_refused words (take (accepted + 1) list) (drop (accepted + 1) (take more list)) err);
       part_is = ap (λ n. part_before base n ticks) w.at_is ∙ ap (part_before base (FIRST_GROUP + length (flat_map group_bytes w.kept))) w.ticks_is;
     }
 
@@ -76,13 +79,16 @@ same_list bytes base tick ticks list a b = (let same : OpenSegment base ticks �
 
 pub replayed_by : (tick : ℕ) (words bytes : List ℕ) (formed part : LogPart) (base : ℕ) (ticks : List Tick) → base ≡ tick → IsSegment (kept_log formed bytes) (OpenSegment base ticks)
     → ((part ≡ formed) × IsOk (words_after words ticks)) ⊎ IsRefused base words (kept_log formed bytes) part → IsReplayed tick words bytes formed part
-replayed_by tick words bytes formed part base ticks e reads (inl ok) = inl (ok.0, λ list s. subst (λ l. IsOk (words_after words l)) (same_list (kept_log formed bytes) base tick ticks list reads s).1 ok.1)
+replayed_by tick words bytes formed part base ticks e reads (inl ok) =
+    inl (ok.0, λ list s. subst (λ l. IsOk (words_after words l)) (same_list (kept_log formed bytes) base tick ticks list reads s).1 ok.1)
 replayed_by tick words bytes formed part base ticks e reads (inr r) = inr (subst (λ t. IsRefused t words (kept_log formed bytes) part) e r)
 
 pub stays_closed : (tick : ℕ) (words bytes : List ℕ) (formed : LogPart) → IsSegment (kept_log formed bytes) ClosedSegment → IsReplayed tick words bytes formed formed
-stays_closed tick words bytes formed reads = inl (refl, λ list s. (let same : ClosedSegment ≡ OpenSegment tick list = reads_once (kept_log formed bytes) ClosedSegment (OpenSegment tick list) reads s in absurd cc))
+stays_closed tick words bytes formed reads =
+    inl (refl, λ list s. (let same : ClosedSegment ≡ OpenSegment tick list = reads_once (kept_log formed bytes) ClosedSegment (OpenSegment tick list) reads s in absurd cc))
 
-pub stays_elsewhere : (tick : ℕ) (words bytes : List ℕ) (formed : LogPart) (base : ℕ) (ticks : List Tick) → IsSegment (kept_log formed bytes) (OpenSegment base ticks) → (base ≡ tick → ⊥) → IsReplayed tick words bytes formed formed
+pub stays_elsewhere : (tick : ℕ) (words bytes : List ℕ) (formed : LogPart) (base : ℕ) (ticks : List Tick)
+    → IsSegment (kept_log formed bytes) (OpenSegment base ticks) → (base ≡ tick → ⊥) → IsReplayed tick words bytes formed formed
 stays_elsewhere tick words bytes formed base ticks reads ne = inl (refl, λ list s. absurd (ne (same_list (kept_log formed bytes) base tick ticks list reads s).0))
 
 pub kept_replayed : (tick : ℕ) (words bytes : List ℕ) (formed part : LogPart) → IsKept bytes formed → IsReplayed tick words bytes formed part → IsKept bytes part

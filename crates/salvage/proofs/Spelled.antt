@@ -124,7 +124,9 @@ module _ (bytes : List ℕ) (base : ℕ) (list : List Tick) (segment : IsOpenSeg
         at_is = at_is;
         done_is = done_is;
         count = ap (number_of 2) behind ∙ number_of-number_bytes 2 (length group) (body ++ more) (let few : length group ≤ GROUP_TICKS = of.1 in omega arith);
-        ticks_are = ap (λ l. take (length group) (drop done l)) all ∙ ap (take (length group)) (drop_at (joined kept) (group ++ joined later) done (sym done_is)) ∙ take_at group (joined later) (length group) refl;
+        ticks_are =
+            ap (λ l. take (length group) (drop done l)) all ∙ ap (take (length group))
+            (drop_at (joined kept) (group ++ joined later) done (sym done_is)) ∙ take_at group (joined later) (length group) refl;
         room = omega (arith, ap length is, length-append front (group_bytes group ++ more), length-append (group_bytes group) more, length_front);
         some = of.0;
         within = omega (arith, ap length all, length-append (joined kept) (group ++ joined later), length-append group (joined later), done_is);
@@ -139,7 +141,8 @@ module _ (bytes : List ℕ) (base : ℕ) (list : List Tick) (segment : IsOpenSeg
       go (group ∷ later) split = group_follows at done s.kept group later split s.at_is s.done_is
 
 -- the next group is passed
-pub stands_next : (bytes : List ℕ) (list : List Tick) (groups : List (List Tick)) (at done length_group count : ℕ) (n : NextGroup bytes list groups at done) → length_group ≡ length (group_bytes n.group) → count ≡ length n.group
+pub stands_next : (bytes : List ℕ) (list : List Tick) (groups : List (List Tick)) (at done length_group count : ℕ)
+    (n : NextGroup bytes list groups at done) → length_group ≡ length (group_bytes n.group) → count ≡ length n.group
     → StandsAt groups (at + length_group) (done + count)
 stands_next bytes list groups at done length_group count n long many =
     let last = n.group ∷ [] in
@@ -147,12 +150,22 @@ stands_next bytes list groups at done length_group count n long many =
       kept = n.kept ++ last;
       left = n.later;
       split = n.split ∙ sym (append_assoc n.kept last n.later);
-      at_is = omega (arith, n.at_is, long, ap length (flat_map-append group_bytes n.kept last), length-append (flat_map group_bytes n.kept) (flat_map group_bytes last), ap length (append-nil (group_bytes n.group)));
+      at_is =
+          omega (
+            arith,
+            n.at_is,
+            long,
+            ap length (flat_map-append group_bytes n.kept last),
+            length-append
+                (flat_map group_bytes n.kept) (flat_map group_bytes last),
+            ap length (append-nil (group_bytes n.group)),
+          );
       done_is = omega (arith, n.done_is, many, ap length (joined_with n.kept n.group), length-append (joined n.kept) n.group);
     }
 
 -- the search ends before the next group
-pub stops_before : (bytes : List ℕ) (list : List Tick) (groups : List (List Tick)) (at done most count : ℕ) (n : NextGroup bytes list groups at done) → count ≡ length n.group → done ≤ most → most < done + count
+pub stops_before : (bytes : List ℕ) (list : List Tick) (groups : List (List Tick)) (at done most count : ℕ)
+    (n : NextGroup bytes list groups at done) → count ≡ length n.group → done ≤ most → most < done + count
     → IsWithin groups most at done
 stops_before bytes list groups at done most count n many few more =
     record { kept = n.kept; group = n.group; later = n.later; split = n.split; at_is = n.at_is; ticks_is = n.done_is; few = few; next = omega (arith, more, many) }

@@ -110,7 +110,8 @@ none_refused t words bytes part s reads ok r =
     clash (Ok w) ok err = absurd cc
     clash (Err e) ok err = absurd cc
 
-stays : (t : ℕ) (words bytes : List ℕ) (formed part : LogPart) (s : Segment) → IsSegment (kept_log formed bytes) s → IsOk (words_after words (ticks_from t s)) → IsReplayed t words bytes formed part → part ≡ formed
+stays : (t : ℕ) (words bytes : List ℕ) (formed part : LogPart) (s : Segment) → IsSegment (kept_log formed bytes) s
+    → IsOk (words_after words (ticks_from t s)) → IsReplayed t words bytes formed part → part ≡ formed
 stays t words bytes formed part s reads ok (inl same) = same.0
 stays t words bytes formed part s reads ok (inr r) = absurd (none_refused t words (kept_log formed bytes) part s reads ok r)
 
@@ -156,7 +157,8 @@ passed a b la lb r e = go (is_bad_image a) (is_bad_image b) (is_bad_segment la) 
     go false false false false hx hy hz hw e = record { good_a = hx; good_b = hy; formed_a = hz; formed_b = hw }
 
 -- the tail of an answer is accepted
-tail_accepted : (a b : Image) (n : Recovery) (la lb : Segment) (r : Recovery) → OnNewest a b n → is_bad_segment la ≡ false → is_bad_segment lb ≡ false → recovery_of a b la lb ≡ Ok r → IsOk (words_after n.words (tail n.tick la lb))
+tail_accepted : (a b : Image) (n : Recovery) (la lb : Segment) (r : Recovery) → OnNewest a b n → is_bad_segment la ≡ false
+    → is_bad_segment lb ≡ false → recovery_of a b la lb ≡ Ok r → IsOk (words_after n.words (tail n.tick la lb))
 tail_accepted a b n la lb r on fa fb e =
     let there : IsOk (words_after on.image.words (tail on.image.tick la lb)) = go (words_after on.image.words (tail on.image.tick la lb)) (sym (on.with_logs la lb fa fb) ∙ e) in
     subst (λ t. IsOk (words_after n.words (tail t la lb))) on.tick_is (subst (λ w. IsOk (words_after w (tail on.image.tick la lb))) on.words_are there)
@@ -173,7 +175,8 @@ pub record TakenWhole (image_a image_b log_a log_b : List ℕ) (image_part_a ima
   pub log_a_is : kept_log part_a log_a ≡ log_a
   pub log_b_is : kept_log part_b log_b ≡ log_b
 
-pub taken_whole : (image_a image_b log_a log_b : List ℕ) (image_part_a image_part_b : ImagePart) (formed_a formed_b part_a part_b : LogPart) → IsImagePart image_a image_part_a → IsImagePart image_b image_part_b
+pub taken_whole : (image_a image_b log_a log_b : List ℕ) (image_part_a image_part_b : ImagePart)
+    (formed_a formed_b part_a part_b : LogPart) → IsImagePart image_a image_part_a → IsImagePart image_b image_part_b
     → IsFormed log_a formed_a → IsFormed log_b formed_b → IsKept log_a formed_a
     → AreReplayedInOrder (kept_image image_part_a image_a) (kept_image image_part_b image_b) log_a log_b formed_a formed_b part_a part_b → (r : Recovery) → Recovers image_a image_b log_a log_b (Ok r)
     → TakenWhole image_a image_b log_a log_b image_part_a image_part_b part_a part_b
@@ -210,7 +213,8 @@ taken_whole image_a image_b log_a log_b image_part_a image_part_b formed_a forme
         both_stay o.newest log_a log_b formed_a formed_b part_a part_b e.a e.b reads_a reads_b x (subst (λ l. IsOk (words_after o.newest.words l)) (tail_first o.newest.tick e.a e.b (inl based)) ok)
     go ok reads_a reads_b (inr (here, x)) =
         let based : has_base o.newest.tick e.a ≡ false = sym (begins o.newest.tick e.a reads_a) ∙ here in
-        let both = both_stay o.newest log_b log_a formed_b formed_a part_b part_a e.b e.a reads_b reads_a x (subst (λ l. IsOk (words_after o.newest.words l)) (tail_second o.newest.tick e.a e.b based) ok) in
+        let both = both_stay o.newest log_b log_a formed_b formed_a part_b part_a e.b e.a reads_b reads_a x
+        (subst (λ l. IsOk (words_after o.newest.words l)) (tail_second o.newest.tick e.a e.b based) ok) in
         (both.1, both.0)
 
 -- files have one answer

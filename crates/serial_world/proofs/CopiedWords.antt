@@ -38,8 +38,10 @@ same_rests content file honest engine store files same r =
     }
 
 -- the engine follows its ticks
-pub same_follows : {C D : Type 0} (content : C → Content) (file : D → List ℕ) (leaves : D → List ℕ → Type 0) (engine : Engine C) (store : C) (files : FourFiles D) (first : List ℕ) (ticks : List (List Action)) (acknowledged : ℕ)
-    → content store ≡ content engine.store → Follows content file leaves engine files first ticks acknowledged → Follows content file leaves (record engine { store = store }) files first ticks acknowledged
+pub same_follows : {C D : Type 0} (content : C → Content) (file : D → List ℕ) (leaves : D → List ℕ → Type 0) (engine : Engine C)
+    (store : C) (files : FourFiles D) (first : List ℕ) (ticks : List (List Action)) (acknowledged : ℕ)
+    → content store ≡ content engine.store → Follows content file leaves engine files first ticks acknowledged
+    → Follows content file leaves (record engine { store = store }) files first ticks acknowledged
 same_follows content file leaves engine store files first ticks acknowledged same f =
     image_follows content file leaves engine files store engine.images files.image_a files.image_b first ticks acknowledged refl (ap (λ (c : Content). c.live) same)
     (λ first ticks acknowledged journal queue r. record {

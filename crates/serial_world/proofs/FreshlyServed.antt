@@ -23,7 +23,8 @@ module _ {C D : Type 0} (content : C → Content) (file : D → List ℕ) (leave
       → IsServedFresh content file leaves honest cells s
   served_fresh files made cells s m synced opened =
       let on = opened.serves (replicate cells 0) [] 0 (m.synced synced) (m.sound synced) in
-      let serves : Serves content file leaves honest s (replicate cells 0) [] = subst (λ (ticks : List (List Action)). Serves content file leaves honest s (replicate cells 0) ticks) (none_taken opened.recovery.tick [] refl) on in
+      let serves : Serves content file leaves honest s (replicate cells 0) [] = subst
+      (λ (ticks : List (List Action)). Serves content file leaves honest s (replicate cells 0) ticks) (none_taken opened.recovery.tick [] refl) on in
       let words = words_of content file leaves honest s in
       record {
         cells_are = serves.follows.cells ∙ length-replicate cells 0;

@@ -44,7 +44,8 @@ other_reason a b la lb e =
 
 module _ {D : Type 0} (file : D → List ℕ) (leaves : D → List ℕ → Type 0) (honest : Bool) where
   -- recovery refuses no files that are sound
-  none_refused : ReadsOnce → ((disk : D) → leaves disk (file disk)) → (files : FourFiles D) (first : List ℕ) (ticks : List (List Action)) (acknowledged : ℕ) → AreSound file leaves files first ticks acknowledged
+  none_refused : ReadsOnce → ((disk : D) → leaves disk (file disk)) → (files : FourFiles D) (first : List ℕ)
+      (ticks : List (List Action)) (acknowledged : ℕ) → AreSound file leaves files first ticks acknowledged
       → (refusal : Refusal) → Recovers (file files.image_a) (file files.image_b) (file files.log_a) (file files.log_b) (Err refusal) → ⊥
   none_refused once stays files first ticks acknowledged sound refusal e =
       let s = sound (file files.image_a) (file files.image_b) (file files.log_a) (file files.log_b) (stays files.image_a) (stays files.image_b) (stays files.log_a) (stays files.log_b) in
@@ -79,7 +80,8 @@ module _ {D : Type 0} (file : D → List ℕ) (leaves : D → List ℕ → Type 
   not_by_open files refusal (inr (inr r)) is = other_reason r.0 r.1 r.2 r.3 (subst (λ (x : Refusal). Recovers r.0 r.1 r.2 r.3 (Err x)) is r.4)
 
   -- what is left of the new files, if they are not opened
-  pub new_left : (files made : FourFiles D) (cells : ℕ) → AreMade file leaves files cells made → (refusal : Refusal) (left : FourFiles D) → IsRefused file honest made refusal → IsNotOpened file leaves made refusal left
+  pub new_left : (files made : FourFiles D) (cells : ℕ) → AreMade file leaves files cells made
+      → (refusal : Refusal) (left : FourFiles D) → IsRefused file honest made refusal → IsNotOpened file leaves made refusal left
       → IsNotCreated file leaves files cells refusal left
   new_left files made cells m refusal left refused n = record {
     not_empty = λ is. absurd (not_by_open made refusal refused is);

@@ -57,7 +57,8 @@ begun_works tick keeper e = begun_by keeper.target_shut e
 module _ {C D : Type 0} (content : C → Content) (file : D → List ℕ) (leaves : D → List ℕ → Type 0) where
   -- a batch was played
   pub tick_follows : WorldsGoOn → ((requests : List Request) (words : List ℕ) → after_actions words (accepted_of requests words) ≡ Ok (words_after requests words))
-      → (old new : Engine C) (files : FourFiles D) (requests : List Request) (first : List ℕ) (ticks : List (List Action)) (acknowledged : ℕ) → old.log.starting ≡ false → Plays content old new requests
+      → (old new : Engine C) (files : FourFiles D) (requests : List Request) (first : List ℕ) (ticks : List (List Action))
+      (acknowledged : ℕ) → old.log.starting ≡ false → Plays content old new requests
       → Follows content file leaves old files first ticks acknowledged → Follows content file leaves new files first (ticks ++ accepted_of requests (content old.store).live ∷ []) acknowledged
   tick_follows goes accepts old new files requests first ticks acknowledged over p f =
       let live = (content old.store).live in
@@ -81,7 +82,8 @@ module _ {C D : Type 0} (content : C → Content) (file : D → List ℕ) (leave
         world = on.0;
         ended = omega (arith, f.ended, length-append ticks (p.tick.list ∷ []));
       } in
-      subst (λ l. Follows content file leaves new files first (ticks ++ l ∷ []) acknowledged) p.list (subst (λ e. Follows content file leaves e files first (ticks ++ p.tick.list ∷ []) acknowledged) (sym p.is) after)
+      subst (λ l. Follows content file leaves new files first (ticks ++ l ∷ []) acknowledged) p.list
+      (subst (λ e. Follows content file leaves e files first (ticks ++ p.tick.list ∷ []) acknowledged) (sym p.is) after)
 
   -- an engine at rest that played a batch and wrote its log is at rest again
   pub played_rests : (honest : Bool) (old played logged : Engine C) (files after : FourFiles D) (requests : List Request) → IsAtRest content file honest old files → Plays content old played requests
@@ -118,18 +120,22 @@ module _ {C D : Type 0} (content : C → Content) (file : D → List ℕ) (leave
       → ((keeper : ImageProgress) (images : ImageFiles) (a b : D) → ImagesStand keeper images (file a) (file b) (leaves a) (leaves b) → keeper.phase ≡ Idle → round_in images ≡ None)
       → ((keeper : ImageProgress) (tick : ℕ) (images : ImageFiles) (a b : D) → keeper.phase ≡ Idle → tick ≤ TICK_MAX
       → ImagesStand keeper images (file a) (file b) (leaves a) (leaves b) → ImagesStand (begun_keeper tick keeper) (with_round tick images) (file a) (file b) (leaves a) (leaves b))
-      → (old new : Engine C) (files : FourFiles D) (first : List ℕ) (ticks : List (List Action)) (acknowledged : ℕ) → old.log.starting ≡ false → work_of old.log old.queue.items ≡ 0 → old.images.phase ≡ Idle
-      → old.images.cells ≡ length (content old.store).live → end_of old.log old.queue.items ≡ record { base = old.ended - old.since; count = old.since } → old.since ≤ old.ended → 0 < old.since → old.ended ≤ TICK_MAX
+      → (old new : Engine C) (files : FourFiles D) (first : List ℕ) (ticks : List (List Action)) (acknowledged : ℕ)
+      → old.log.starting ≡ false → work_of old.log old.queue.items ≡ 0 → old.images.phase ≡ Idle
+      → old.images.cells ≡ length (content old.store).live
+      → end_of old.log old.queue.items ≡ record { base = old.ended - old.since; count = old.since } → old.since ≤ old.ended → 0 < old.since → old.ended ≤ TICK_MAX
       → BeginsRound content old new → Follows content file leaves old files first ticks acknowledged → Follows content file leaves new files first ticks acknowledged
   mark_follows goes ready idle_none begins old new files first ticks acknowledged over rests idle cells end within some most d f =
       let waits = none_waits old.log old.queue.items rests in
       let logs = logs_of_place old.log (file files.log_a) (file files.log_b) (leaves files.log_a) (leaves files.log_b) f.place over f.has_log in
-      let is_ready = ready old.log files.log_a files.log_b logs.0 f.place.left (subst (λ j. LogStands old.log (file files.log_a) (file files.log_b) (leaves files.log_a) (leaves files.log_b) (record { journal = j; left = f.place.left })) logs.1 f.has_log) waits.0 in
+      let is_ready = ready old.log files.log_a files.log_b logs.0 f.place.left
+      (subst (λ j. LogStands old.log (file files.log_a) (file files.log_b) (leaves files.log_a) (leaves files.log_b) (record { journal = j; left = f.place.left })) logs.1 f.has_log) waits.0 in
       let here : InStep first ticks f.count (content old.store) f.images (Writing logs.0) [] = subst (λ q. InStep first ticks f.count (content old.store) f.images (Writing logs.0) q) waits.1
       (subst (λ j. InStep first ticks f.count (content old.store) f.images j old.queue.items) logs.1 f.in_step) in
       let newest = newest_of first ticks f.count (content old.store) f.images logs.0 [] here in
       let none : newest.0.round ≡ None = ap round_in (sym newest.1) ∙ idle_none old.images f.images files.image_a files.image_b f.has_images idle in
-      let same : newest.0.tick ≡ old.log.base = newest_is_base first ticks f.count newest.0 logs.0 (subst (λ i. HasPhase first ticks f.count i (Writing logs.0) []) newest.1 here.phase) none is_ready.1 ∙ is_ready.2 in
+      let same : newest.0.tick ≡ old.log.base = newest_is_base first ticks f.count newest.0 logs.0
+      (subst (λ i. HasPhase first ticks f.count i (Writing logs.0) []) newest.1 here.phase) none is_ready.1 ∙ is_ready.2 in
       let at_end : old.log.base ≡ old.ended - old.since = (stands_at old.log old.queue.items (old.ended - old.since) old.since waits end).0 in
       let above : newest.0.tick < length ticks = omega (arith, same, at_end, within, some, f.ended) in
       let on = goes.mark first ticks f.count newest.0 logs.0 [] (content old.store) (content new.store) none above f.world (sym cells ∙ f.cells) d.marks
@@ -161,4 +167,5 @@ module _ {C D : Type 0} (content : C → Content) (file : D → List ℕ) (leave
       → (s : Engine C) (files : FourFiles D) (first : List ℕ) (ticks : List (List Action)) (acknowledged : ℕ) (slot : Slot) (tick : ℕ) → s.images.newest ≡ Some (slot, tick)
       → Follows content file leaves s files first ticks acknowledged → HasImageOf leaves files tick
   image_is newest are s files first ticks acknowledged slot tick is f =
-      image_in s.images.cells f.images (leaves files.image_a) (leaves files.image_b) slot tick (sym (newest s.images f.images files.image_a files.image_b f.has_images) ∙ is) (are s.images f.images files.image_a files.image_b f.has_images)
+      image_in s.images.cells f.images (leaves files.image_a) (leaves files.image_b) slot tick
+      (sym (newest s.images f.images files.image_a files.image_b f.has_images) ∙ is) (are s.images f.images files.image_a files.image_b f.has_images)

@@ -40,11 +40,29 @@ module _ {S : Type 0} (runs : S → List Request → Result (List ℕ) Refusal �
       → Answers runs first batches text now → runs now batch given next → Answers runs first (batches ++ batch ∷ []) (text ++ line_of given) next
   Answers-snoc first now next [] batch given text answered run =
       (given, next, [], subst (λ s. runs s batch given next) answered.1 run, (refl, refl), ap (λ t. t ++ line_of given) answered.0 ∙ sym (append-nil (line_of given)))
-  Answers-snoc first now next (head ∷ batches) batch given text answered run =
-      (answered.0, answered.1, answered.2 ++ line_of given, answered.3, Answers-snoc answered.1 now next batches batch given answered.2 answered.4 run, ap (λ t. t ++ line_of given) answered.5 ∙ append_assoc (line_of answered.0) answered.2 (line_of given))
+  Answers-snoc first now next (head ∷ batches) batch given text answered run = (
+    answered.0,
+    answered.1,
+    answered.2
+        ++ line_of given,
+    answered.3,
+    Answers-snoc answered.1 now next batches batch given answered.2 answered.4 run,
+    ap (λ t. t ++ line_of given) answered.5 ∙ append_assoc (line_of answered.0) answered.2 (line_of given),
+  )
 
   pub stands_fresh : (first : S) (reading : Reading) → IsBegun [] reading → Stands runs first [] reading first []
-  stands_fresh first reading begun = record { before = []; begun = []; split = refl; meanings = []; lines = lines_none; batches = []; batches_are = refl; fit = tt; answered = (refl, refl); reads = begun }
+  stands_fresh first reading begun = record {
+    before = [];
+    begun = [];
+    split = refl;
+    meanings = [];
+    lines = lines_none;
+    batches = [];
+    batches_are = refl;
+    fit = tt;
+    answered = (refl, refl);
+    reads = begun;
+  }
 
   -- no batch has ended
   pub goes_more : (now : S) (old new : Reading) (piece : List ℕ) → ((before : List ℕ) → IsBegun before old → IsBegun (before ++ piece) new) → Goes runs now old piece new now []
@@ -76,7 +94,8 @@ module _ {S : Type 0} (runs : S → List Request → Result (List ℕ) Refusal �
   goes_nothing now reading = goes_more now reading reading [] (λ before begun. subst (λ b. IsBegun b reading) (sym (append-nil before)) begun)
 
   -- a batch has ended, and is answered
-  pub goes_whole : (now next : S) (old new : Reading) (bytes : List ℕ) (requests : List Request) (given : Result (List ℕ) Refusal) → ((before : List ℕ) → IsBegun before old → IsWhole (before ++ bytes) requests)
+  pub goes_whole : (now next : S) (old new : Reading) (bytes : List ℕ) (requests : List Request) (given : Result (List ℕ) Refusal)
+      → ((before : List ℕ) → IsBegun before old → IsWhole (before ++ bytes) requests)
       → runs now requests given next → IsBegun [] new → Goes runs now old bytes new next (line_of given)
   goes_whole now next old new bytes requests given whole run fresh = record {
     on = λ first read prior s.
@@ -115,9 +134,15 @@ module _ {S : Type 0} (runs : S → List Request → Result (List ℕ) Refusal �
       → (later : List (Option Command)) × MeanAll (ended_lines (read ++ (bytes ++ left))) (s.meanings ++ (meanings ++ later))
   all_read first now old read prior bytes left s meanings lines =
       let rest = all_mean some (ended_lines left) in
-      let same : read ++ (bytes ++ left) ≡ s.before ++ ((s.begun ++ bytes) ++ left) = ap (λ l. l ++ (bytes ++ left)) s.split ∙ (append_assoc s.before s.begun (bytes ++ left) ∙ ap (λ l. s.before ++ l) (sym (append_assoc s.begun bytes left))) in
-      let are : ended_lines (read ++ (bytes ++ left)) ≡ s.lines.lines ++ (lines.lines ++ ended_lines left) = ap ended_lines same ∙ (s.lines.on ((s.begun ++ bytes) ++ left) ∙ ap (λ l. s.lines.lines ++ l) (lines.on left)) in
-      (rest.0, subst (λ l. MeanAll l (s.meanings ++ (meanings ++ rest.0))) (sym are) (MeanAll-append s.lines.lines (lines.lines ++ ended_lines left) s.meanings (meanings ++ rest.0) s.lines.mean (MeanAll-append lines.lines (ended_lines left) meanings rest.0 lines.mean rest.1)))
+      let same : read ++ (bytes ++ left) ≡ s.before ++ ((s.begun ++ bytes) ++ left) = ap (λ l. l ++ (bytes ++ left)) s.split
+      ∙ (append_assoc s.before s.begun (bytes ++ left) ∙ ap (λ l. s.before ++ l) (sym (append_assoc s.begun bytes left))) in
+      let are : ended_lines (read ++ (bytes ++ left))
+      ≡ s.lines.lines ++ (lines.lines ++ ended_lines left) = ap ended_lines same ∙ (s.lines.on ((s.begun ++ bytes) ++ left) ∙ ap (λ l. s.lines.lines ++ l) (lines.on left)) in (
+        rest.0,
+        subst (λ l. MeanAll l (s.meanings ++ (meanings ++ rest.0))) (sym are)
+            (MeanAll-append s.lines.lines (lines.lines ++ ended_lines left) s.meanings (meanings ++ rest.0) s.lines.mean
+            (MeanAll-append lines.lines (ended_lines left) meanings rest.0 lines.mean rest.1)),
+      )
 
   record TooLong (first now : S) (old : Reading) (read prior bytes left : List ℕ) (s : Stands runs first read old now prior) : Type 0 where
     meanings : List (Option Command)
@@ -130,18 +155,27 @@ module _ {S : Type 0} (runs : S → List Request → Result (List ℕ) Refusal �
       let all = all_read first now old read prior bytes left s t.meanings t.lines in
       let more = batches_of all.0 in
       let late_ones = late t.requests more.ended more.rest (omega (arith, t.many)) in
-      let tail : batches_of (t.meanings ++ all.0) ≡ added [] t.requests more.ended more.rest = batches_append t.meanings all.0 ∙ ap (λ (b : Batches). added b.ended b.rest more.ended more.rest) t.batch in
-      let whole : batches_of (s.meanings ++ (t.meanings ++ all.0)) ≡ record { ended = s.batches ++ (added [] t.requests more.ended more.rest).ended; rest = (added [] t.requests more.ended more.rest).rest } =
+      let tail : batches_of (t.meanings ++ all.0)
+      ≡ added [] t.requests more.ended more.rest = batches_append t.meanings all.0 ∙ ap (λ (b : Batches). added b.ended b.rest more.ended more.rest) t.batch in
+      let whole : batches_of (s.meanings ++ (t.meanings ++ all.0)) ≡ record {
+        ended = s.batches ++ (added [] t.requests more.ended more.rest).ended;
+        rest = (added [] t.requests more.ended more.rest).rest;
+      } =
       batches_after s.meanings (t.meanings ++ all.0) s.batches s.batches_are ∙ ap (λ (b : Batches). record { ended = s.batches ++ b.ended; rest = b.rest }) tail in
       record {
         meanings = s.meanings ++ (t.meanings ++ all.0);
         mean = all.1;
-        answered = ap (λ (b : Batches). answered_in b.ended) whole ∙ (answered_fit s.batches (added [] t.requests more.ended more.rest).ended s.fit ∙ (ap (λ l. s.batches ++ l) late_ones.0 ∙ append-nil s.batches));
-        early = ap (λ (b : Batches). ends_early b.ended b.rest) whole ∙ (ends_fit s.batches (added [] t.requests more.ended more.rest).ended (added [] t.requests more.ended more.rest).rest s.fit ∙ late_ones.1);
+        answered =
+            ap (λ (b : Batches). answered_in b.ended) whole
+            ∙ (answered_fit s.batches (added [] t.requests more.ended more.rest).ended s.fit ∙ (ap (λ l. s.batches ++ l) late_ones.0 ∙ append-nil s.batches));
+        early =
+            ap (λ (b : Batches). ends_early b.ended b.rest) whole
+            ∙ (ends_fit s.batches (added [] t.requests more.ended more.rest).ended (added [] t.requests more.ended more.rest).rest s.fit ∙ late_ones.1);
       }
 
   -- within a piece a batch is too long, and its line is written
-  pub too_long_ends : (now : S) (old : Reading) (n : ℕ) (piece : List ℕ) → ((before : List ℕ) → IsBegun before old → IsTooMuch (before ++ take n piece)) → EndsEarly runs now old piece now (fault_text BadLine)
+  pub too_long_ends : (now : S) (old : Reading) (n : ℕ) (piece : List ℕ)
+      → ((before : List ℕ) → IsBegun before old → IsTooMuch (before ++ take n piece)) → EndsEarly runs now old piece now (fault_text BadLine)
   too_long_ends now old n piece long = subst (λ b. EndsEarly runs now old b now (fault_text BadLine)) (take-append-drop n piece) (record {
     on = λ first read prior s.
         let t = too_long first now old read prior (take n piece) (drop n piece) s (long s.begun s.reads) in
@@ -156,7 +190,8 @@ module _ {S : Type 0} (runs : S → List Request → Result (List ℕ) Refusal �
   })
 
   -- or writing that line fails
-  pub too_long_breaks : (now : S) (old : Reading) (n : ℕ) (piece front : List ℕ) → ((before : List ℕ) → IsBegun before old → IsTooMuch (before ++ take n piece)) → IsFront front (fault_text BadLine) → BreaksOff runs now old piece now front
+  pub too_long_breaks : (now : S) (old : Reading) (n : ℕ) (piece front : List ℕ)
+      → ((before : List ℕ) → IsBegun before old → IsTooMuch (before ++ take n piece)) → IsFront front (fault_text BadLine) → BreaksOff runs now old piece now front
   too_long_breaks now old n piece front long is = subst (λ b. BreaksOff runs now old b now front) (take-append-drop n piece) (record {
     on = λ first read prior s.
         let t = too_long first now old read prior (take n piece) (drop n piece) s (long s.begun s.reads) in
@@ -176,7 +211,8 @@ module _ {S : Type 0} (runs : S → List Request → Result (List ℕ) Refusal �
   })
 
   -- a batch has ended, and writing its answer fails
-  pub whole_breaks : (now last : S) (old : Reading) (n : ℕ) (piece front : List ℕ) (requests : List Request) (given : Result (List ℕ) Refusal) → ((before : List ℕ) → IsBegun before old → IsWhole (before ++ take n piece) requests)
+  pub whole_breaks : (now last : S) (old : Reading) (n : ℕ) (piece front : List ℕ) (requests : List Request)
+      (given : Result (List ℕ) Refusal) → ((before : List ℕ) → IsBegun before old → IsWhole (before ++ take n piece) requests)
       → runs now requests given last → IsFront front (line_of given) → BreaksOff runs now old piece last front
   whole_breaks now last old n piece front requests given whole run is = subst (λ b. BreaksOff runs now old b last front) (take-append-drop n piece) (record {
     on = λ first read prior s.
@@ -203,14 +239,16 @@ module _ {S : Type 0} (runs : S → List Request → Result (List ℕ) Refusal �
   })
 
 module _ {S : Type 0} (runs : S → List Request → Result (List ℕ) Refusal → S → Type 0) where
-  pub early_after : (now middle last : S) (old between : Reading) (bytes more written rest : List ℕ) → Goes runs now old bytes between middle written → EndsEarly runs middle between more last rest → EndsEarly runs now old (bytes ++ more) last (written ++ rest)
+  pub early_after : (now middle last : S) (old between : Reading) (bytes more written rest : List ℕ)
+      → Goes runs now old bytes between middle written → EndsEarly runs middle between more last rest → EndsEarly runs now old (bytes ++ more) last (written ++ rest)
   early_after now middle last old between bytes more written rest one two = record {
     on = λ first read prior s.
         subst (λ t. IsSession runs first (read ++ (bytes ++ more)) t last true) (append_assoc prior written rest)
         (subst (λ r. IsSession runs first r ((prior ++ written) ++ rest) last true) (append_assoc read bytes more) (two.on first (read ++ bytes) (prior ++ written) (one.on first read prior s)));
   }
 
-  pub breaks_after : (now middle last : S) (old between : Reading) (bytes more written rest : List ℕ) → Goes runs now old bytes between middle written → BreaksOff runs middle between more last rest → BreaksOff runs now old (bytes ++ more) last (written ++ rest)
+  pub breaks_after : (now middle last : S) (old between : Reading) (bytes more written rest : List ℕ)
+      → Goes runs now old bytes between middle written → BreaksOff runs middle between more last rest → BreaksOff runs now old (bytes ++ more) last (written ++ rest)
   breaks_after now middle last old between bytes more written rest one two = record {
     on = λ first read prior s.
         subst (λ t. IsCutOff runs first (read ++ (bytes ++ more)) t last) (append_assoc prior written rest)
@@ -228,8 +266,13 @@ module _ {S : Type 0} (runs : S → List Request → Result (List ℕ) Refusal �
   so_far first now reading read written s =
       let b = s.reads in
       let same : read ≡ s.before ++ (b.before ++ b.line) = s.split ∙ ap (λ l. s.before ++ l) b.split in
-      let are : ended_lines read ≡ s.lines.lines ++ b.lines.lines = ap ended_lines same ∙ (s.lines.on (b.before ++ b.line) ∙ ap (λ l. s.lines.lines ++ l) (b.lines.on b.line ∙ (ap (λ l. b.lines.lines ++ l) (ended_lines-none b.line b.unbroken) ∙ append-nil b.lines.lines))) in
-      let whole : batches_of (s.meanings ++ b.meanings) ≡ record { ended = s.batches ++ []; rest = reading.requests } = batches_after s.meanings b.meanings s.batches s.batches_are ∙ ap (λ (x : Batches). record { ended = s.batches ++ x.ended; rest = x.rest }) b.requests in
+      let are : ended_lines read ≡ s.lines.lines
+      ++ b.lines.lines = ap ended_lines same
+      ∙ (s.lines.on (b.before ++ b.line) ∙ ap (λ l. s.lines.lines ++ l) (b.lines.on b.line ∙ (ap (λ l. b.lines.lines ++ l) (ended_lines-none b.line b.unbroken) ∙ append-nil b.lines.lines))) in
+      let whole : batches_of (s.meanings ++ b.meanings) ≡ record {
+        ended = s.batches ++ [];
+        rest = reading.requests;
+      } = batches_after s.meanings b.meanings s.batches s.batches_are ∙ ap (λ (x : Batches). record { ended = s.batches ++ x.ended; rest = x.rest }) b.requests in
       record {
         meanings = s.meanings ++ b.meanings;
         mean = subst (λ l. MeanAll l (s.meanings ++ b.meanings)) (sym are) (MeanAll-append s.lines.lines b.lines.lines s.meanings b.meanings s.lines.mean b.lines.mean);
@@ -240,9 +283,28 @@ module _ {S : Type 0} (runs : S → List Request → Result (List ℕ) Refusal �
   pub session_ends : (first now : S) (reading : Reading) (read written : List ℕ) → Stands runs first read reading now written → IsSession runs first read written now false
   session_ends first now reading read written s =
       let t = so_far first now reading read written s in
-      record { meanings = t.meanings; mean = t.mean; answers = written; answered = subst (λ b. Answers runs first b written now) (sym t.answered) s.answered; early_is = sym t.early; text_is = sym (append-nil written) }
+      record {
+        meanings = t.meanings;
+        mean = t.mean;
+        answers = written;
+        answered = subst (λ b. Answers runs first b written now) (sym t.answered) s.answered;
+        early_is = sym t.early;
+        text_is = sym (append-nil written);
+      }
 
   pub session_stops : (first now : S) (reading : Reading) (read written : List ℕ) → Stands runs first read reading now written → IsCutOff runs first read written now
   session_stops first now reading read written s =
       let t = so_far first now reading read written s in
-      record { meanings = t.meanings; mean = t.mean; done = s.batches; later = []; split = t.answered ∙ sym (append-nil s.batches); now = now; answers = written; answered = s.answered; part = []; written_is = sym (append-nil written); broken = Between refl refl }
+      record {
+        meanings = t.meanings;
+        mean = t.mean;
+        done = s.batches;
+        later = [];
+        split = t.answered ∙ sym (append-nil s.batches);
+        now = now;
+        answers = written;
+        answered = s.answered;
+        part = [];
+        written_is = sym (append-nil written);
+        broken = Between refl refl;
+      }

@@ -1,5 +1,6 @@
 -- Each step of the two seats, as the table asks for it.
-use Rattle.std.proofs.Common.{◌≡◌, ◌≢◌, ℕ, ◌+◌, ◌<◌, ◌/◌, eqb, Bool, zero, suc, List, [], ◌∷◌, ◌++◌, length, replicate, get_or, set, sym, refl, ap, ◌∙◌, subst, arith, length-append, get_or-append-add, true, false, All}
+use Rattle.std.proofs.Common.{◌≡◌, ◌≢◌, ℕ, ◌+◌, ◌<◌, ◌/◌, eqb, Bool, zero, suc, List, [], ◌∷◌, ◌++◌, length, replicate, get_or}
+use Rattle.std.proofs.Common.{set, sym, refl, ap, ◌∙◌, subst, arith, length-append, get_or-append-add, true, false, All}
 use Rattle.std.proofs.lemmas.List.{get_or-replicate, length-replicate, get_or_append_left}
 use Rattle.std.proofs.lemmas.List.Elements.{All-get_or}
 use Rattle.std.proofs.lemmas.Bool.{false≢true}
@@ -21,7 +22,9 @@ use Rattle.shared_capture.specs.Methods.{write_side, take_side, is_word, row, le
 use Rattle.shared_capture.specs.Table.{cell_place, mark_place}
 use Rattle.shared_capture.specs.Start.{opening_words, opening_pair, front_start, back_start}
 use Rattle.shared_capture.specs.Rule.{Core, Knows, Kept}
-use Rattle.shared_capture.specs.Steps.{Sitting, front_of, back_of, after_load, after_write, after_mark, after_open, after_look, after_fetch, after_take, after_finish, phase_loaded, value_stored, mark_stored, phase_stored, looked, mark_fetched, value_loaded, finished}
+use Rattle.shared_capture.specs.Steps.{Sitting, front_of, back_of, after_load, after_write, after_mark, after_open, after_look}
+use Rattle.shared_capture.specs.Steps.{after_fetch, after_take, after_finish, phase_loaded, value_stored, mark_stored}
+use Rattle.shared_capture.specs.Steps.{phase_stored, looked, mark_fetched, value_loaded, finished}
 use Rattle.shared_capture.specs.Meeting.{after_meet, front_met, front_part, back_part, paired, met}
 use Rattle.shared_capture.specs.Seats.{IsReady, IsSame}
 use Rattle.shared_capture.proofs.Packed.{full_packed}
@@ -102,26 +105,36 @@ module _ (kind : Kind) (n : ℕ) where
 module _ (kind : Kind) (n slots id : ℕ) (me : Sitting) (f : FrontView) (is : me.0 ≡ Front f) where
   pub loads_phase : Allows (Kept kind n) slots id me 0 (λ x. x) (phase_loaded (step slots 0 0 0 maybe.none) me)
   loads_phase = front_step kind n slots id me 0 (λ x. x) f (λ x. after_load x f) (phase_loaded (step slots 0 0 0 maybe.none) me) is
-      (λ ws b c. (words_stay kind n ws f b c 0 (after_load (get_or ws 0 0) f) b (core_load kind n ws f b c), (ap (λ (v : View). (Front (after_load (get_or ws 0 0) (front_of v)), me.1)) (sym is), λ e. c.table.closed (sym (ap (λ (v : View). (front_of v).closed) is) ∙ e))))
+      (λ ws b c. (
+        words_stay kind n ws f b c 0 (after_load (get_or ws 0 0) f) b (core_load kind n ws f b c),
+        (ap (λ (v : View). (Front (after_load (get_or ws 0 0) (front_of v)), me.1)) (sym is), λ e. c.table.closed (sym (ap (λ (v : View). (front_of v).closed) is) ∙ e)),
+      ))
 
-  pub stores_value : (i v word : ℕ) → IsWord v → i < n → length f.live ≡ n → word ≡ cell_place n (write_side kind f.current (marked f.marks i)) i → Allows (Kept kind n) slots id me word (λ _. v) (λ _. value_stored (step slots word v 0 maybe.none) me v)
+  pub stores_value : (i v word : ℕ) → IsWord v → i < n → length f.live ≡ n
+      → word ≡ cell_place n (write_side kind f.current (marked f.marks i)) i → Allows (Kept kind n) slots id me word (λ _. v) (λ _. value_stored (step slots word v 0 maybe.none) me v)
   stores_value i v word fits inside long at = let s : Bool = write_side kind f.current (marked f.marks i) in
       subst (λ (z : ℕ). Allows (Kept kind n) slots id me z (λ _. v) (λ _. value_stored (step slots z v 0 maybe.none) me v)) (sym at)
       (front_step kind n slots id me (cell_place n s i) (λ _. v) f (λ _. after_write i s v f) (λ _. value_stored (step slots (cell_place n s i) v 0 maybe.none) me v) is
       (λ ws b c. (
         core_write kind n ws f b c i v inside fits,
-        subst (λ (z : View). (j : ℕ) (t : Bool) → cell_place n s i ≡ cell_place (length (front_of z).live) t j → j < length (front_of z).live → ◌≡◌ {A = Sitting} (Front (after_write i s v f), me.1) (Front (after_write j t v (front_of z)), me.1)) (sym is)
-            (λ j t e l. let one = cell_one n s t i j inside (subst (λ (z : ℕ). j < z) long l) (sym (e ∙ ap (λ (z : ℕ). cell_place z t j) long)) in λ k. (Front (after_write (sym one.0 k) (sym one.1 k) v f), me.1)),
+        subst (λ (z : View). (j : ℕ) (t : Bool) → cell_place n s i ≡ cell_place (length (front_of z).live) t j
+            → j < length (front_of z).live → ◌≡◌ {A = Sitting} (Front (after_write i s v f), me.1) (Front (after_write j t v (front_of z)), me.1)) (sym is)
+            (λ j t e l.
+            let one = cell_one n s t i j inside (subst (λ (z : ℕ). j < z) long l)
+            (sym (e ∙ ap (λ (z : ℕ). cell_place z t j) long)) in λ k. (Front (after_write (sym one.0 k) (sym one.1 k) v f), me.1)),
       )))
 
-  pub stores_mark : (k v word : ℕ) → k < chunks n → length f.live ≡ n → (kind ≡ Zigzag → f.closed ≡ true) → IsPacked n (set f.marks k v) → word ≡ mark_place n (row kind f.current) k → Allows (Kept kind n) slots id me word (λ _. v) (λ _. mark_stored (step slots word v 0 maybe.none) me v)
+  pub stores_mark : (k v word : ℕ) → k < chunks n → length f.live ≡ n → (kind ≡ Zigzag → f.closed ≡ true)
+      → IsPacked n (set f.marks k v) → word ≡ mark_place n (row kind f.current) k → Allows (Kept kind n) slots id me word (λ _. v) (λ _. mark_stored (step slots word v 0 maybe.none) me v)
   stores_mark k v word inside long closed packed at = let s : Bool = row kind f.current in
       subst (λ (z : ℕ). Allows (Kept kind n) slots id me z (λ _. v) (λ _. mark_stored (step slots z v 0 maybe.none) me v)) (sym at)
       (front_step kind n slots id me (mark_place n s k) (λ _. v) f (λ _. after_mark k v f) (λ _. mark_stored (step slots (mark_place n s k) v 0 maybe.none) me v) is
       (λ ws b c. (
         core_mark kind n ws f b c k v inside closed packed,
-        subst (λ (z : View). (j : ℕ) (t : Bool) → mark_place n s k ≡ mark_place (length (front_of z).live) t j → j < chunks (length (front_of z).live) → ◌≡◌ {A = Sitting} (Front (after_mark k v f), me.1) (Front (after_mark j v (front_of z)), me.1)) (sym is)
-            (λ j t e l. let one = mark_one n s t k j inside (subst (λ (z : ℕ). j < chunks z) long l) (sym (e ∙ ap (λ (z : ℕ). mark_place z t j) long)) in λ h. (Front (after_mark (sym one.0 h) v f), me.1)),
+        subst (λ (z : View). (j : ℕ) (t : Bool) → mark_place n s k ≡ mark_place (length (front_of z).live) t j
+            → j < chunks (length (front_of z).live) → ◌≡◌ {A = Sitting} (Front (after_mark k v f), me.1) (Front (after_mark j v (front_of z)), me.1)) (sym is)
+            (λ j t e l. let one = mark_one n s t k j inside (subst (λ (z : ℕ). j < chunks z) long l)
+            (sym (e ∙ ap (λ (z : ℕ). mark_place z t j) long)) in λ h. (Front (after_mark (sym one.0 h) v f), me.1)),
       )))
 
   pub stores_phase : (t : ℕ) → 0 < t → f.closed ≡ true → IsReady kind n f → Allows (Kept kind n) slots id me 0 (λ _. t) (λ _. phase_stored kind (step slots 0 t 0 maybe.none) me t)
@@ -133,20 +146,31 @@ module _ (kind : Kind) (n slots id : ℕ) (me : Sitting) (f : FrontView) (is : m
 module _ (kind : Kind) (n slots id : ℕ) (me : Sitting) (b : BackView) (is : me.0 ≡ Back b) where
   pub looks : b.working ≡ false → Allows (Kept kind n) slots id me 0 (λ x. x) (looked (step slots 0 0 0 maybe.none) me)
   looks idle = back_step kind n slots id me 0 (λ x. x) b (λ x. after_look x b) (looked (step slots 0 0 0 maybe.none) me) is
-      (λ ws f c. (words_stay kind n ws f b c 0 f (after_look (get_or ws 0 0) b) (core_look kind n ws f b c (eqb (get_or ws 0 0) 0) refl idle), ap (λ (v : View). (Back (after_look (get_or ws 0 0) (back_of v)), me.1)) (sym is)))
+      (λ ws f c. (
+        words_stay kind n ws f b c 0 f (after_look (get_or ws 0 0) b)
+            (core_look kind n ws f b c (eqb (get_or ws 0 0) 0) refl idle),
+        ap (λ (v : View). (Back (after_look (get_or ws 0 0) (back_of v)), me.1)) (sym is),
+      ))
 
-  fetches : (word second : ℕ) → b.working ≡ true → length b.marks < chunks n → word ≡ mark_place n (row kind b.current) (length b.marks) → Allows (Kept kind n) slots id me word (left_in kind) (mark_fetched (step slots word second 0 maybe.none) me)
+  fetches : (word second : ℕ) → b.working ≡ true → length b.marks < chunks n
+      → word ≡ mark_place n (row kind b.current) (length b.marks) → Allows (Kept kind n) slots id me word (left_in kind) (mark_fetched (step slots word second 0 maybe.none) me)
   fetches word second working inside at = subst (λ (z : ℕ). Allows (Kept kind n) slots id me z (left_in kind) (mark_fetched (step slots z second 0 maybe.none) me)) (sym at)
-      (back_step kind n slots id me (mark_place n (row kind b.current) (length b.marks)) (left_in kind) b (λ x. after_fetch x b) (mark_fetched (step slots (mark_place n (row kind b.current) (length b.marks)) second 0 maybe.none) me) is
+      (back_step kind n slots id me (mark_place n (row kind b.current) (length b.marks)) (left_in kind) b (λ x. after_fetch x b)
+      (mark_fetched (step slots (mark_place n (row kind b.current) (length b.marks)) second 0 maybe.none) me) is
       (λ ws f c. (core_fetch kind n ws f b c working inside, ap (λ (v : View). (Back (after_fetch (get_or ws (mark_place n (row kind b.current) (length b.marks)) 0) (back_of v)), me.1)) (sym is))))
 
-  pub loads_mark : (word : ℕ) → kind ≡ Zigzag → b.working ≡ true → length b.marks < chunks n → word ≡ mark_place n (row kind b.current) (length b.marks) → Allows (Kept kind n) slots id me word (λ x. x) (mark_fetched (step slots word 0 0 maybe.none) me)
-  loads_mark word e working inside at = subst (λ (g : ℕ → ℕ). Allows (Kept kind n) slots id me word g (mark_fetched (step slots word 0 0 maybe.none) me)) (ap left_in e) (fetches word 0 working inside at)
+  pub loads_mark : (word : ℕ) → kind ≡ Zigzag → b.working ≡ true → length b.marks < chunks n
+      → word ≡ mark_place n (row kind b.current) (length b.marks) → Allows (Kept kind n) slots id me word (λ x. x) (mark_fetched (step slots word 0 0 maybe.none) me)
+  loads_mark word e working inside at =
+      subst (λ (g : ℕ → ℕ). Allows (Kept kind n) slots id me word g (mark_fetched (step slots word 0 0 maybe.none) me)) (ap left_in e) (fetches word 0 working inside at)
 
-  pub swaps_mark : (word : ℕ) → kind ≡ PingPong → b.working ≡ true → length b.marks < chunks n → word ≡ mark_place n (row kind b.current) (length b.marks) → Allows (Kept kind n) slots id me word (λ _. 0) (mark_fetched (step slots word 0 0 maybe.none) me)
-  swaps_mark word e working inside at = subst (λ (g : ℕ → ℕ). Allows (Kept kind n) slots id me word g (mark_fetched (step slots word 0 0 maybe.none) me)) (ap left_in e) (fetches word 0 working inside at)
+  pub swaps_mark : (word : ℕ) → kind ≡ PingPong → b.working ≡ true → length b.marks < chunks n
+      → word ≡ mark_place n (row kind b.current) (length b.marks) → Allows (Kept kind n) slots id me word (λ _. 0) (mark_fetched (step slots word 0 0 maybe.none) me)
+  swaps_mark word e working inside at =
+      subst (λ (g : ℕ → ℕ). Allows (Kept kind n) slots id me word g (mark_fetched (step slots word 0 0 maybe.none) me)) (ap left_in e) (fetches word 0 working inside at)
 
-  pub loads_value : (i word : ℕ) → b.working ≡ true → i < n → b.cells ≡ n → IsSame kind i b → i / 64 < length b.marks → is_word kind (marked b.marks i) ≡ true → word ≡ cell_place n (take_side kind b.current (marked b.marks i)) i
+  pub loads_value : (i word : ℕ) → b.working ≡ true → i < n → b.cells ≡ n → IsSame kind i b → i / 64 < length b.marks
+      → is_word kind (marked b.marks i) ≡ true → word ≡ cell_place n (take_side kind b.current (marked b.marks i)) i
       → Allows (Kept kind n) slots id me word (λ x. x) (value_loaded (step slots word 0 0 maybe.none) me)
   loads_value i word working inside wide known here is_a_word at = let s : Bool = take_side kind b.current (marked b.marks i) in
       subst (λ (z : ℕ). Allows (Kept kind n) slots id me z (λ x. x) (value_loaded (step slots z 0 0 maybe.none) me)) (sym at)
@@ -154,7 +178,8 @@ module _ (kind : Kind) (n slots id : ℕ) (me : Sitting) (b : BackView) (is : me
       (λ ws f c. let x : ℕ = get_or ws (cell_place n s i) 0 in (
         words_stay kind n ws f b c (cell_place n s i) f (after_take i x b) (core_take kind n ws f b c working i inside known here is_a_word),
         (
-          subst (λ (z : View). (j : ℕ) (t : Bool) → cell_place n s i ≡ cell_place (back_of z).cells t j → j < (back_of z).cells → ◌≡◌ {A = Sitting} (Back (after_take i x b), me.1) (Back (after_take j x (back_of z)), me.1)) (sym is)
+          subst (λ (z : View). (j : ℕ) (t : Bool) → cell_place n s i ≡ cell_place (back_of z).cells t j → j < (back_of z).cells
+              → ◌≡◌ {A = Sitting} (Back (after_take i x b), me.1) (Back (after_take j x (back_of z)), me.1)) (sym is)
               (λ j t e l. let one = cell_one n s t i j inside (subst (λ (z : ℕ). j < z) wide l) (sym (e ∙ ap (λ (z : ℕ). cell_place z t j) wide)) in λ h. (Back (after_take (sym one.0 h) x b), me.1)),
           c.table.small s i inside,
         ),
@@ -183,14 +208,16 @@ module _ (kind : Kind) (n : ℕ) where
           back_at = k.back_at;
           core = words_stay kind n s.words f b c 0 (front_met x f) (after_meet x b) m.0;
           each_seat = set_knows (Knows (front_met x f) k.front_at (after_meet x b) k.back_at) s.views id (Pair (front_met x f) (after_meet x b)) (known.0, known.1, refl, refl)
-              (λ j v ne e. others_spent k.front (front_met x f) k.front_at k.front_at k.back (after_meet x b) k.back_at k.back_at j v (λ h. ne (h ∙ sym known.0)) (λ h. ne (h ∙ sym known.1)) (k.each_seat j v e));
+              (λ j v ne e. others_spent k.front (front_met x f) k.front_at k.front_at k.back (after_meet x b) k.back_at k.back_at
+              j v (λ h. ne (h ∙ sym known.0)) (λ h. ne (h ∙ sym known.1)) (k.each_seat j v e));
         },
         subst (λ (z : View). met kind (step slots 0 0 0 maybe.none) (z, me.1) x (Pair (front_met x f) (after_meet x b), me.1)) (sym is)
             (refl, record { agrees = m.1.agrees; level = m.1.level; fetched = m.1.fetched; touched = m.1.touched }),
       )
 
   -- front and back know what they knew, at these seats
-  kept_at : {s t : State U View} (k : Kept kind n s) (p q : ℕ) → Core kind n t.words k.front k.back → ((j : ℕ) (v : View) → get_elem? t.views j ≡ maybe.some v → Knows k.front p k.back q j v) → Kept kind n t
+  kept_at : {s t : State U View} (k : Kept kind n s) (p q : ℕ) → Core kind n t.words k.front k.back
+      → ((j : ℕ) (v : View) → get_elem? t.views j ≡ maybe.some v → Knows k.front p k.back q j v) → Kept kind n t
   kept_at k p q core each = record { front = k.front; front_at = p; back = k.back; back_at = q; core = core; each_seat = each }
 
   parts : (id : ℕ) (f : FrontView) (b : BackView) → Splits (Kept kind n) id (Pair f b) (Front f) (Back b)
@@ -237,10 +264,14 @@ module _ (ws ms : List ℕ) (full : IsFull (length ws) ms) (all_words : All IsWo
   marks_at k = get_or-append-add (0 ∷ []) (ws ++ (ws ++ (ms ++ zeros))) (n + (n + k)) 0 ∙ (get_or-append-add ws (ws ++ (ms ++ zeros)) (n + k) 0 ∙ get_or-append-add ws (ms ++ zeros) k 0)
 
   first_row : (k : ℕ) → k < chunks n → get_or (opening_words ws ms) (mark_place n false k) 0 ≡ get_or ms k 0
-  first_row k l = (let e : mark_place n false k ≡ 1 + (n + (n + k)) = omega arith in ap (λ (z : ℕ). get_or (opening_words ws ms) z 0) e) ∙ (marks_at k ∙ get_or_append_left ms zeros 0 k (omega (arith, full.words_length)))
+  first_row k l =
+      (let e : mark_place n false k ≡ 1 + (n + (n + k)) = omega arith in ap (λ (z : ℕ). get_or (opening_words ws ms) z 0) e)
+      ∙ (marks_at k ∙ get_or_append_left ms zeros 0 k (omega (arith, full.words_length)))
 
   second_row : (k : ℕ) → k < chunks n → get_or (opening_words ws ms) (mark_place n true k) 0 ≡ 0
-  second_row k l = (let e : mark_place n true k ≡ 1 + (n + (n + (length ms + k))) = omega (arith, full.words_length) in ap (λ (z : ℕ). get_or (opening_words ws ms) z 0) e) ∙ (marks_at (length ms + k) ∙ (get_or-append-add ms zeros k 0 ∙ get_or-replicate (chunks n) k 0 0 l))
+  second_row k l =
+      (let e : mark_place n true k ≡ 1 + (n + (n + (length ms + k))) = omega (arith, full.words_length) in
+      ap (λ (z : ℕ). get_or (opening_words ws ms) z 0) e) ∙ (marks_at (length ms + k) ∙ (get_or-append-add ms zeros k 0 ∙ get_or-replicate (chunks n) k 0 0 l))
 
   front_row : (kind : Kind) → row kind false ≡ false
   front_row Zigzag = refl

@@ -1,5 +1,7 @@
 -- The fields of the back stay what its seat knows.
-use Rattle.std.proofs.Common.{◌≡◌, ◌≢◌, ℕ, suc, zero, ◌+◌, ◌-◌, ◌<◌, ◌≤◌, ◌/◌, ◌%◌, Bool, List, [], ◌∷◌, ◌++◌, length, replicate, get_or, Some, sym, refl, ap, ◌∙◌, subst, ⊎_elim, arith, true, false, length-append, append_assoc, append-nil}
+use Rattle.std.proofs.Common.{◌≡◌, ◌≢◌, ℕ, suc, zero, ◌+◌, ◌-◌, ◌<◌, ◌≤◌, ◌/◌, ◌%◌, Bool, List, [], ◌∷◌, ◌++◌, length, replicate}
+use Rattle.std.proofs.Common.{get_or, Some, sym, refl, ap, ◌∙◌, subst, ⊎_elim, arith, true, false, length-append, append_assoc}
+use Rattle.std.proofs.Common.{append-nil}
 use Rattle.std.proofs.lemmas.List.{length-replicate}
 use Rattle.std.proofs.lemmas.Option.{slice_get-get_or}
 use Rattle.std.specs.List.{slice_get}
@@ -42,7 +44,9 @@ longer_same zero = refl
 longer_same (suc m) = λ i. Same ∷ longer_same m i
 
 pub padded_more : (l : List Taken) (i : ℕ) → length l ≤ i → padded (i + 1) l ≡ padded i l ++ Same ∷ []
-padded_more l i le = (let e : i + 1 - length l ≡ suc (i - length l) = omega arith in ap (λ (z : ℕ). l ++ replicate z Same) e) ∙ (ap (λ (z : List Taken). l ++ z) (longer_same (i - length l)) ∙ sym (append_assoc l (replicate (i - length l) Same) (Same ∷ [])))
+padded_more l i le =
+    (let e : i + 1 - length l ≡ suc (i - length l) = omega arith in ap (λ (z : ℕ). l ++ replicate z Same) e)
+    ∙ (ap (λ (z : List Taken). l ++ z) (longer_same (i - length l)) ∙ sym (append_assoc l (replicate (i - length l) Same) (Same ∷ [])))
 
 pub length-padded : (l : List Taken) (i : ℕ) → length l ≤ i → length (padded i l) ≡ i
 length-padded l i le = length-append l (replicate (i - length l) Same) ∙ omega (arith, length-replicate {A = Taken} (i - length l) Same)
@@ -65,7 +69,8 @@ known_fetched kind i m b c known k = record {
   same = λ j l n. ap (is_word kind) (k.others j n) ∙ known.same j (subst (λ (z : Snapshot). length z.taken ≤ j) k.now l) n;
 }
 
-known_more : (kind : Kind) (i : ℕ) (t : Taken) (b : BackView) → IsSame kind i b → chunks (i + 1) ≤ length b.marks → (t ≡ Same → is_word kind (marked b.marks i) ≡ false) → IsSame kind (i + 1) (after_known i t b)
+known_more : (kind : Kind) (i : ℕ) (t : Taken) (b : BackView) → IsSame kind i b → chunks (i + 1) ≤ length b.marks
+    → (t ≡ Same → is_word kind (marked b.marks i) ≡ false) → IsSame kind (i + 1) (after_known i t b)
 known_more kind i (Word v) b known far unset = record {
   most = omega (arith, length-append (padded i b.now.taken) (Word v ∷ []), length-padded b.now.taken i known.most);
   fetched = far;
@@ -77,7 +82,9 @@ known_more kind i Same b known far unset = record {
   same = λ j l m. dite (ℕ_discrete j i) (λ e. ap (λ (z : ℕ). is_word kind (marked b.marks z)) e ∙ unset refl) (λ ne. known.same j l (omega arith));
 }
 
-after_known_rest : (i : ℕ) (t : Taken) (b : BackView) → ((after_known i t b).cells ≡ b.cells) × ((after_known i t b).marks ≡ b.marks) × ((after_known i t b).working ≡ b.working) × ((after_known i t b).current ≡ b.current) × ((after_known i t b).now.tick ≡ b.now.tick)
+after_known_rest : (i : ℕ) (t : Taken) (b : BackView)
+    → ((after_known i t b).cells ≡ b.cells) × ((after_known i t b).marks ≡ b.marks) × ((after_known i t b).working ≡ b.working)
+    × ((after_known i t b).current ≡ b.current) × ((after_known i t b).now.tick ≡ b.now.tick)
 after_known_rest i (Word v) b = (refl, refl, refl, refl, refl)
 after_known_rest i Same b = (refl, refl, refl, refl, refl)
 
@@ -85,7 +92,8 @@ module _ (kind : Kind) (t : TableId) (n : ℕ) (seat new : TableSeat) (cells tic
   abbrev b : BackView
   b = back_of seat.me.0
 
-  pub back_taken : (c : BackView) (now : Taken) (m : ℕ) → 0 < tick → at < n → IsFetched at m b c → IsBack t (after_known at now c) new → (now ≡ Same → is_word kind (marked c.marks at) ≡ false) → IsBackOf kind t n new cells tick (at + 1) m current
+  pub back_taken : (c : BackView) (now : Taken) (m : ℕ) → 0 < tick → at < n → IsFetched at m b c
+      → IsBack t (after_known at now c) new → (now ≡ Same → is_word kind (marked c.marks at) ≡ false) → IsBackOf kind t n new cells tick (at + 1) m current
   back_taken c now m some inside k sits unset =
       let is = back_view t (after_known at now c) new sits in
       let rest = after_known_rest at now c in
@@ -135,7 +143,8 @@ module _ (kind : Kind) (t : TableId) (n : ℕ) (seat new : TableSeat) (cells tic
 -- ## The meeting
 
 module _ (kind : Kind) (t : TableId) (n : ℕ) (seat new : TableSeat) (cells tick at mark : ℕ) (current : Bool) (ok : IsBackOf kind t n seat cells tick at mark current) where
-  met_back : (found : ℕ) (w : Bool) → (back_of seat.me.0).working ≡ w → IsBack t (met_as w found (back_of seat.me.0)) new → (tick' : ℕ) → (tick ≡ 0 → tick' ≡ found) → (0 < tick → tick' ≡ tick) → IsBackOf kind t n new cells tick' at mark current
+  met_back : (found : ℕ) (w : Bool) → (back_of seat.me.0).working ≡ w → IsBack t (met_as w found (back_of seat.me.0)) new
+      → (tick' : ℕ) → (tick ≡ 0 → tick' ≡ found) → (0 < tick → tick' ≡ tick) → IsBackOf kind t n new cells tick' at mark current
   met_back found true e sits tick' none some =
       let busy : 0 < tick = dite (ℕ_discrete tick 0) (λ z. absurd (true≢false (sym e ∙ (ok.idle z).0))) (λ ne. omega arith) in
       let is = back_view t (back_of seat.me.0) new sits in
@@ -155,7 +164,8 @@ module _ (kind : Kind) (t : TableId) (n : ℕ) (seat new : TableSeat) (cells tic
       let idle : tick ≡ 0 = dite (ℕ_discrete tick 0) (λ z. z) (λ ne. absurd (true≢false (sym (ok.busy (omega arith)).0 ∙ e))) in
       subst (λ (z : ℕ). IsBackOf kind t n new cells z at mark current) (sym (none idle)) (back_looked kind t n seat new cells tick at mark current ok found idle sits)
 
-  pub back_met : (found : ℕ) → IsBack t (after_meet found (back_of seat.me.0)) new → (tick' : ℕ) → (tick ≡ 0 → tick' ≡ found) → (0 < tick → tick' ≡ tick) → IsBackOf kind t n new cells tick' at mark current
+  pub back_met : (found : ℕ) → IsBack t (after_meet found (back_of seat.me.0)) new → (tick' : ℕ) → (tick ≡ 0 → tick' ≡ found)
+      → (0 < tick → tick' ≡ tick) → IsBackOf kind t n new cells tick' at mark current
   back_met found sits tick' none some = met_back found (back_of seat.me.0).working refl sits tick' none some
 
 -- the back of a new pair
@@ -186,7 +196,8 @@ agree_padded rounds at b true e agree same = λ k c is. ⊎_elim (λ s. agree k 
     ))
     (at_end b.done (record { tick = b.now.tick; taken = padded at b.now.taken }) c k is)
 
-pub met_rounds : (kind : Kind) (t : TableId) (n : ℕ) (seat : TableSeat) (cells tick at mark : ℕ) (current : Bool) → IsBackOf kind t n seat cells tick at mark current → (u : TableId) (b : BackView) → IsBack u b seat
+pub met_rounds : (kind : Kind) (t : TableId) (n : ℕ) (seat : TableSeat) (cells tick at mark : ℕ) (current : Bool)
+    → IsBackOf kind t n seat cells tick at mark current → (u : TableId) (b : BackView) → IsBack u b seat
     → (found : ℕ) (f g : FrontView) (s : TableId) (front : TableSeat) → Met kind found f b → IsFront s g front → g.rounds ≡ f.rounds
     → Agree (front_of front.me.0).rounds (snapshots (back_state seat.table_id at (back_of seat.me.0)))
 met_rounds kind t n seat cells tick at mark current ok u b sits found f g s front met sits_front same_rounds =
@@ -203,4 +214,5 @@ met_rounds kind t n seat cells tick at mark current ok u b sits found f g s fron
 pub back_made : (kind : Kind) (t u : TableId) (k l n : ℕ) (words marks : List ℕ) (front back : TableSeat) (cells : ℕ) → IsSeated t k n words marks front back → u ≡ t → l ≡ k → cells ≡ n
     → IsBackOf kind u l back cells 0 0 0 false
 back_made kind t u k l n words marks front back cells made same same_k long =
-    subst (λ (z : TableId). IsBackOf kind z l back cells 0 0 0 false) (sym same) (subst (λ (z : ℕ). IsBackOf kind t z back cells 0 0 0 false) (sym (same_k ∙ made.cells)) (back_opens kind t n back cells made.sits_back made.has long))
+    subst (λ (z : TableId). IsBackOf kind z l back cells 0 0 0 false) (sym same)
+    (subst (λ (z : ℕ). IsBackOf kind t z back cells 0 0 0 false) (sym (same_k ∙ made.cells)) (back_opens kind t n back cells made.sits_back made.has long))

@@ -1,5 +1,6 @@
 -- The fields of the front stay what its seat knows.
-use Rattle.std.proofs.Common.{◌≡◌, ◌≢◌, ℕ, ◌<◌, ◌/◌, ◌%◌, Bool, List, [], ◌∷◌, ◌++◌, length, replicate, get_or, set, sym, refl, ap, ◌∙◌, subst, arith, length-set, get_or-set_other, get_or-set_same, true, false, not, All}
+use Rattle.std.proofs.Common.{◌≡◌, ◌≢◌, ℕ, ◌<◌, ◌/◌, ◌%◌, Bool, List, [], ◌∷◌, ◌++◌, length, replicate, get_or, set, sym, refl}
+use Rattle.std.proofs.Common.{ap, ◌∙◌, subst, arith, length-set, get_or-set_other, get_or-set_same, true, false, not, All}
 use Rattle.std.proofs.lemmas.List.{length-replicate, get_or-replicate}
 use Rattle.std.proofs.lemmas.List.Elements.{All-set}
 use Rattle.std.proofs.lemmas.Bool.{false≢true}
@@ -80,20 +81,28 @@ module _ (kind : Kind) (t : TableId) (n : ℕ) (seat new : TableSeat) (live mark
         (get_or-set_same f.sides i s false (omega (arith, ok.fits.1)) ∙ (sym (not_not s) ∙ ap not (sym becomes.0))))
         (λ ne. get_or-set_other f.sides i j s false ne ∙ (ok.away_are p j l ∙ ap not (sym (becomes.1 j ne)))))
 
-    pub ping_pong_written : kind ≡ PingPong → IsFront t (after_mark (i / 64) w (after_write i current v f)) new → is_set w (i % 64) ≡ true → ((j : ℕ) → j < 64 → j ≢ i % 64 → is_set w j ≡ is_set (get_or marks (i / 64) 0) j)
+    pub ping_pong_written : kind ≡ PingPong → IsFront t (after_mark (i / 64) w (after_write i current v f)) new
+        → is_set w (i % 64) ≡ true → ((j : ℕ) → j < 64 → j ≢ i % 64 → is_set w j ≡ is_set (get_or marks (i / 64) 0) j)
         → IsFrontOf kind t n new (set live i v) (set marks (i / 64) w) away current
     ping_pong_written e k here others =
         let g : FrontView = after_mark (i / 64) w (after_write i current v f) in
         let is = sits_view t g new k in
         let long : length f.marks ≡ chunks n = ok.fits.2.words_length in
-        let becomes = marked_put f.marks i w true (omega (arith, long)) here (subst (λ (z : List ℕ). (j : ℕ) → j < 64 → j ≢ i % 64 → is_set w j ≡ is_set (get_or z (i / 64) 0) j) (sym ok.marks_are) others) in
+        let becomes = marked_put f.marks i w true (omega (arith, long)) here
+        (subst (λ (z : List ℕ). (j : ℕ) → j < 64 → j ≢ i % 64 → is_set w j ≡ is_set (get_or z (i / 64) 0) j) (sym ok.marks_are) others) in
         let was : IsReady PingPong n f = subst (λ (z : Kind). IsReady z n f) e (ok.ready e) in
         let now : IsReady PingPong n g = λ j l m. dite (ℕ_discrete j i)
         (λ h. subst (λ (z : ℕ). flag_at (set f.sides i current) z ≡ f.current) (sym h) (get_or-set_same f.sides i current false (omega (arith, ok.fits.1)) ∙ sym ok.current_is))
         (λ ne. get_or-set_other f.sides i j current false ne ∙ was j l (sym (becomes.1 j ne) ∙ m)) in record {
           sits = resits t g new k;
           cells = ok.cells;
-          fits = subst (FitsCells n) (sym is) (length-set f.live i v ∙ ok.fits.0, length-set f.sides i current ∙ ok.fits.1, packed-put n f.marks i w true ok.fits.2 inside here (subst (λ (z : List ℕ). (j : ℕ) → j < 64 → j ≢ i % 64 → is_set w j ≡ is_set (get_or z (i / 64) 0) j) (sym ok.marks_are) others));
+          fits =
+              subst (FitsCells n) (sym is) (
+                length-set f.live i v ∙ ok.fits.0,
+                length-set f.sides i current
+                    ∙ ok.fits.1,
+                packed-put n f.marks i w true ok.fits.2 inside here (subst (λ (z : List ℕ). (j : ℕ) → j < 64 → j ≢ i % 64 → is_set w j ≡ is_set (get_or z (i / 64) 0) j) (sym ok.marks_are) others),
+              );
           live_is = ap (λ (z : FrontView). z.live) is ∙ ap (λ (z : List ℕ). set z i v) ok.live_is;
           words = All-set IsWord live i v word ok.words;
           marks_are = ap (λ (z : FrontView). z.marks) is ∙ ap (λ (z : List ℕ). set z (i / 64) w) ok.marks_are;
@@ -112,7 +121,8 @@ module _ (kind : Kind) (t : TableId) (n : ℕ) (seat new : TableSeat) (live mark
         let now : IsReady PingPong n g = λ j l m. dite (ℕ_discrete j i)
         (λ h. subst (λ (z : ℕ). flag_at (set f.sides i current) z ≡ f.current) (sym h) (get_or-set_same f.sides i current false (omega (arith, ok.fits.1)) ∙ sym ok.current_is))
         (λ ne. get_or-set_other f.sides i j current false ne ∙ was j l m) in
-        word_written current away k (λ p. subst (IsReady kind n) (sym is) (subst (λ (z : Kind). IsReady z n g) (sym e) now)) (λ p. absurd (zigzag≢ping_pong kind p e)) (λ p. absurd (zigzag≢ping_pong kind p e))
+        word_written current away k (λ p. subst (IsReady kind n) (sym is) (subst (λ (z : Kind). IsReady z n g) (sym e) now))
+        (λ p. absurd (zigzag≢ping_pong kind p e)) (λ p. absurd (zigzag≢ping_pong kind p e))
 
   -- in Zigzag every cell counts as touched
   pub zigzag_touched : (u : TableId) (i v : ℕ) (s : Bool) → kind ≡ Zigzag → IsFront u (after_write i s v f) new
@@ -120,12 +130,16 @@ module _ (kind : Kind) (t : TableId) (n : ℕ) (seat new : TableSeat) (live mark
   zigzag_touched u i v s e k = ap (λ (z : FrontView). touched_of kind (length z.live) z.marks) (sits_view u (after_write i s v f) new k)
       ∙ (ap (λ (z : ℕ). touched_of kind z f.marks) (length-set f.live i v) ∙ touched_set kind (length f.live) i f.marks f.marks (ap (λ (z : Kind). is_word z (marked f.marks i)) e) (λ j ne. refl))
 
-  pub ping_pong_touched : (u x : TableId) (mid : TableSeat) (i v w : ℕ) → i < n → kind ≡ PingPong → IsFront x (after_write i current v f) mid → IsFront u (after_mark (i / 64) w (front_of mid.me.0)) new → is_set w (i % 64) ≡ true → ((j : ℕ) → j < 64 → j ≢ i % 64 → is_set w j ≡ is_set (get_or marks (i / 64) 0) j)
+  pub ping_pong_touched : (u x : TableId) (mid : TableSeat) (i v w : ℕ) → i < n → kind ≡ PingPong
+      → IsFront x (after_write i current v f) mid → IsFront u (after_mark (i / 64) w (front_of mid.me.0)) new
+      → is_set w (i % 64) ≡ true → ((j : ℕ) → j < 64 → j ≢ i % 64 → is_set w j ≡ is_set (get_or marks (i / 64) 0) j)
       → touched_of kind (length (front_of new.me.0).live) (front_of new.me.0).marks ≡ set (touched_of kind (length f.live) f.marks) i true
   ping_pong_touched u x mid i v w inside e before after here others =
-      let k : IsFront u (after_mark (i / 64) w (after_write i current v f)) new = subst (λ (z : FrontView). IsFront u (after_mark (i / 64) w z) new) (sits_view x (after_write i current v f) mid before) after in
+      let k : IsFront u (after_mark (i / 64) w (after_write i current v f)) new = subst
+      (λ (z : FrontView). IsFront u (after_mark (i / 64) w z) new) (sits_view x (after_write i current v f) mid before) after in
       let long : length f.marks ≡ chunks n = ok.fits.2.words_length in
-      let becomes = marked_put f.marks i w true (omega (arith, long)) here (subst (λ (z : List ℕ). (j : ℕ) → j < 64 → j ≢ i % 64 → is_set w j ≡ is_set (get_or z (i / 64) 0) j) (sym ok.marks_are) others) in
+      let becomes = marked_put f.marks i w true (omega (arith, long)) here
+      (subst (λ (z : List ℕ). (j : ℕ) → j < 64 → j ≢ i % 64 → is_set w j ≡ is_set (get_or z (i / 64) 0) j) (sym ok.marks_are) others) in
       ap (λ (z : FrontView). touched_of kind (length z.live) z.marks) (sits_view u (after_mark (i / 64) w (after_write i current v f)) new k)
       ∙ (ap (λ (z : ℕ). touched_of kind z (set f.marks (i / 64) w)) (length-set f.live i v)
       ∙ touched_set kind (length f.live) i f.marks (set f.marks (i / 64) w) (ap (is_word kind) becomes.0 ∙ ap (λ (z : Kind). is_word z true) e) (λ j ne. ap (is_word kind) (becomes.1 j ne)))
@@ -171,7 +185,8 @@ module _ (kind : Kind) (t : TableId) (n : ℕ) (seat new : TableSeat) (live mark
         away_are = λ p i l. ap (λ (z : FrontView). flag_at z.sides i) is ∙ (ap (λ (z : List Bool). flag_at z i) same.2 ∙ ok.away_are p i l);
       }
 
-  pub ping_pong_opened : (tick : ℕ) (zeros : List ℕ) → kind ≡ PingPong → zeros ≡ replicate (length marks) 0 → IsFront t (after_open kind tick f) new → IsFrontOf kind t n new live zeros away (not current)
+  pub ping_pong_opened : (tick : ℕ) (zeros : List ℕ) → kind ≡ PingPong → zeros ≡ replicate (length marks) 0
+      → IsFront t (after_open kind tick f) new → IsFrontOf kind t n new live zeros away (not current)
   ping_pong_opened tick zeros e z_is k =
       let h : FrontView = after_open kind tick f in
       let is = sits_view t h new k in
@@ -190,7 +205,8 @@ module _ (kind : Kind) (t : TableId) (n : ℕ) (seat new : TableSeat) (live mark
       }
 
 -- the front of a new pair
-pub front_opens : (kind : Kind) (t : TableId) (n : ℕ) (seat : TableSeat) (words marks away : List ℕ) → IsFront t (front_start words marks) seat → HasCells n t → length words ≡ n → All IsWord words → IsFull n marks → (kind ≡ Zigzag → away ≡ marks)
+pub front_opens : (kind : Kind) (t : TableId) (n : ℕ) (seat : TableSeat) (words marks away : List ℕ)
+    → IsFront t (front_start words marks) seat → HasCells n t → length words ≡ n → All IsWord words → IsFull n marks → (kind ≡ Zigzag → away ≡ marks)
     → IsFrontOf kind t n seat words marks away false
 front_opens kind t n seat words marks away sits has long all_words full same =
     let is = sits_view t (front_start words marks) seat sits in
@@ -230,7 +246,8 @@ start_seen kind t k n words marks front back made full long =
       idle = ap (λ (z : BackView). z.working) is';
     }
 
-pub front_made : (kind : Kind) (t : TableId) (k n : ℕ) (words marks away : List ℕ) (front back : TableSeat) → IsSeated t k n words marks front back → IsFull n marks → length words ≡ n → All IsWord words → (kind ≡ Zigzag → away ≡ marks)
+pub front_made : (kind : Kind) (t : TableId) (k n : ℕ) (words marks away : List ℕ) (front back : TableSeat)
+    → IsSeated t k n words marks front back → IsFull n marks → length words ≡ n → All IsWord words → (kind ≡ Zigzag → away ≡ marks)
     → IsFrontOf kind t k front words marks away false
 front_made kind t k n words marks away front back made full long all_words same =
     subst (λ (z : ℕ). IsFrontOf kind t z front words marks away false) (sym made.cells) (front_opens kind t n front words marks away made.sits_front made.has long all_words full same)

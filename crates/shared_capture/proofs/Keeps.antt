@@ -1,5 +1,7 @@
 -- Each step of the two seats keeps the rule, on plain data.
-use Rattle.std.proofs.Common.{◌≡◌, ◌≢◌, ℕ, ◌+◌, ◌-◌, ◌<◌, ◌≤◌, ◌/◌, ◌%◌, eqb, Bool, List, [], ◌∷◌, ◌++◌, length, replicate, get_or, set, Some, sym, refl, ap, ◌∙◌, subst, ⊎_elim, arith, length-set, length-append, get_or-set_other, get_or-set_same, true, false, not}
+use Rattle.std.proofs.Common.{◌≡◌, ◌≢◌, ℕ, ◌+◌, ◌-◌, ◌<◌, ◌≤◌, ◌/◌, ◌%◌, eqb, Bool, List, [], ◌∷◌, ◌++◌, length, replicate}
+use Rattle.std.proofs.Common.{get_or, set, Some, sym, refl, ap, ◌∙◌, subst, ⊎_elim, arith, length-set, length-append}
+use Rattle.std.proofs.Common.{get_or-set_other, get_or-set_same, true, false, not}
 use Rattle.std.proofs.lemmas.List.{set-get_or, get_or-replicate, length-replicate}
 use Rattle.std.proofs.lemmas.Bool.{eqb-true, false≢true, true≢false}
 use Rattle.std.proofs.lemmas.Option.{none-some, same_Some, slice_get-get_or}
@@ -24,7 +26,8 @@ use Rattle.shared_capture.specs.Rule.{Left, IsOpen, Core}
 use Rattle.shared_capture.specs.Steps.{after_load, after_write, after_mark, after_open, looked_as, after_fetch, after_take, after_finish}
 use Rattle.shared_capture.specs.Meeting.{MetAs, Met, met_as, front_met}
 use Rattle.shared_capture.specs.Seats.{IsReady, IsSame}
-use Rattle.shared_capture.proofs.Places.{not_not, not_apart, cell_not_phase, mark_not_phase, mark_not_cell, cell_not_mark, cell_inside, mark_inside, cell_one, mark_one, at_end, at_longer, at_last, at_padded}
+use Rattle.shared_capture.proofs.Places.{not_not, not_apart, cell_not_phase, mark_not_phase, mark_not_cell, cell_not_mark}
+use Rattle.shared_capture.proofs.Places.{cell_inside, mark_inside, cell_one, mark_one, at_end, at_longer, at_last, at_padded}
 use Rattle.shared_capture.proofs.Packed.{zeros_packed}
 use Rattle.shared_capture.proofs.Touched.{touched_at}
 
@@ -54,7 +57,8 @@ module _ (kind : Kind) (n : ℕ) (ws : List ℕ) (f : FrontView) (b : BackView) 
   words_stay i g d k = subst (λ (z : List ℕ). Core kind n z g d) (sym (set-get_or ws i 0)) k
 
   -- an open round stays open if the phase stays and the table has what is left of the round
-  still_open : {zs : List ℕ} {g : FrontView} {d : BackView} (o : IsOpen kind n ws f b) → get_or zs 0 0 ≡ phase → g.rounds ≡ f.rounds → d.done ≡ b.done → Left kind n zs g d o.round → IsOpen kind n zs g d
+  still_open : {zs : List ℕ} {g : FrontView} {d : BackView} (o : IsOpen kind n ws f b) → get_or zs 0 0 ≡ phase
+      → g.rounds ≡ f.rounds → d.done ≡ b.done → Left kind n zs g d o.round → IsOpen kind n zs g d
   still_open o still rounds done left = record {
     round = o.round;
     at = (λ i. slice_get (rounds i) (length (done i))) ∙ o.at;
@@ -72,7 +76,9 @@ module _ (kind : Kind) (n : ℕ) (ws : List ℕ) (f : FrontView) (b : BackView) 
     cells = c.cells;
     agrees = c.agrees;
     ended = λ e. let k = c.ended e in record { level = k.level; idle = k.idle; same = k.same; clean = k.clean };
-    opened = λ p. let o = c.opened p in still_open o refl refl refl (record { touched = o.left.touched; kept = o.left.kept; apart = o.left.apart; turned = o.left.turned; left = o.left.left; swapped = o.left.swapped });
+    opened =
+        λ p. let o = c.opened p in
+        still_open o refl refl refl (record { touched = o.left.touched; kept = o.left.kept; apart = o.left.apart; turned = o.left.turned; left = o.left.left; swapped = o.left.swapped });
     looked = λ e. let k = c.looked e in record { some = k.some; tick = k.tick; taken = k.taken };
     fresh = c.fresh;
     fetched = c.fetched;
@@ -109,7 +115,8 @@ module _ (kind : Kind) (n : ℕ) (ws : List ℕ) (f : FrontView) (b : BackView) 
         (ap (λ (z : Bool). get_or after (cell_place n z i) 0) (get_or-set_same f.sides i s false (omega (arith, c.table.fits.1)))
         ∙ (put ∙ sym (get_or-set_same f.live i v 0 (omega (arith, c.table.fits.0))))))
         (λ ne. ap (λ (z : Bool). get_or after (cell_place n z j) 0) (get_or-set_other f.sides i j s false ne)
-        ∙ (get_or-set_other ws at (cell_place n (flag_at f.sides j) j) v 0 (λ e. ne (cell_one n s (flag_at f.sides j) i j inside l e).0) ∙ (c.table.live j l ∙ sym (get_or-set_other f.live i j v 0 ne))))
+        ∙
+        (get_or-set_other ws at (cell_place n (flag_at f.sides j) j) v 0 (λ e. ne (cell_one n s (flag_at f.sides j) i j inside l e).0) ∙ (c.table.live j l ∙ sym (get_or-set_other f.live i j v 0 ne))))
 
     small_at : (t : Bool) (j : ℕ) → j < n → IsWord (get_or after (cell_place n t j) 0)
     small_at t j l = dite (ℕ_discrete (cell_place n t j) at)
@@ -171,7 +178,9 @@ module _ (kind : Kind) (n : ℕ) (ws : List ℕ) (f : FrontView) (b : BackView) 
           kept = λ j l w. cells_same (take_side kind b.current (marked f.last j)) j l ∙ left.kept j l w;
           apart = λ j l. subst (λ (z : Kind). take_side z b.current (marked f.last j) ≡ not (write_side z f.current (marked (set f.marks k v) j))) (sym e) left.turned;
           turned = left.turned;
-          left = λ j l m. ap (λ (z : Bool). get_or marked_words (mark_place n z j) 0) (rows b.current) ∙ (other_same b.current apart j l ∙ (sym (ap (λ (z : Bool). get_or ws (mark_place n z j) 0) (rows b.current)) ∙ left.left j l m));
+          left =
+              λ j l m. ap (λ (z : Bool). get_or marked_words (mark_place n z j) 0) (rows b.current)
+              ∙ (other_same b.current apart j l ∙ (sym (ap (λ (z : Bool). get_or ws (mark_place n z j) 0) (rows b.current)) ∙ left.left j l m));
           swapped = λ p j l m. other_same b.current apart j l ∙ left.swapped p j l m;
         })
 
@@ -187,8 +196,10 @@ module _ (kind : Kind) (n : ℕ) (ws : List ℕ) (f : FrontView) (b : BackView) 
         live = λ i l. cells_same (flag_at f.sides i) i l ∙ c.table.live i l;
         marks = λ j l. dite (ℕ_discrete j k)
             (λ e. subst (λ (z : ℕ). get_or marked_words (mark_place n (row kind f.current) z) 0 ≡ get_or (set f.marks k v) z 0) (sym e)
-            (get_or-set_same ws here v 0 (subst (λ (z : ℕ). here < z) (sym c.table.wide) (mark_inside n (row kind f.current) k inside)) ∙ sym (get_or-set_same f.marks k v 0 (omega (arith, c.table.fits.2.words_length)))))
-            (λ ne. get_or-set_other ws here (mark_place n (row kind f.current) j) v 0 (λ e. ne (mark_one n (row kind f.current) (row kind f.current) k j inside l e).0) ∙ (c.table.marks j l ∙ sym (get_or-set_other f.marks k j v 0 ne)));
+            (get_or-set_same ws here v 0
+            (subst (λ (z : ℕ). here < z) (sym c.table.wide) (mark_inside n (row kind f.current) k inside)) ∙ sym (get_or-set_same f.marks k v 0 (omega (arith, c.table.fits.2.words_length)))))
+            (λ ne. get_or-set_other ws here (mark_place n (row kind f.current) j) v 0
+            (λ e. ne (mark_one n (row kind f.current) (row kind f.current) k j inside l e).0) ∙ (c.table.marks j l ∙ sym (get_or-set_other f.marks k j v 0 ne)));
         closed = λ e. phase_same ∙ c.table.closed e;
       };
       cells = c.cells;
@@ -219,7 +230,8 @@ module _ (kind : Kind) (n : ℕ) (ws : List ℕ) (f : FrontView) (b : BackView) 
     -- the marks are as the method leaves them
     marks_now : (e : Kind) → kind ≡ e → (k : ℕ) → k < chunks n → get_or begun (mark_place n (row e (not f.current)) k) 0 ≡ get_or (cleared e f.marks) k 0
     marks_now Zigzag e k l = same_mark false k ∙ (sym (ap (λ (z : Kind). get_or ws (mark_place n (row z f.current) k) 0) e) ∙ c.table.marks k l)
-    marks_now PingPong e k l = same_mark (not f.current) k ∙ ((c.ended (c.table.closed closed)).clean e k l ∙ sym (get_or-replicate (length f.marks) k 0 0 (omega (arith, c.table.fits.2.words_length))))
+    marks_now PingPong e k l =
+        same_mark (not f.current) k ∙ ((c.ended (c.table.closed closed)).clean e k l ∙ sym (get_or-replicate (length f.marks) k 0 0 (omega (arith, c.table.fits.2.words_length))))
 
     marks_packed : (e : Kind) → IsPacked n (cleared e f.marks)
     marks_packed Zigzag = c.table.fits.2
@@ -249,7 +261,10 @@ module _ (kind : Kind) (n : ℕ) (ws : List ℕ) (f : FrontView) (b : BackView) 
         tick = sym now;
         left = record {
           touched = ap (λ (z : ℕ). touched_of kind z f.marks) c.table.fits.0;
-          kept = λ i l w. ap (λ (z : Bool). get_or begun (cell_place n z i) 0) (ap (λ (z : Bool). take_side kind z (marked f.marks i)) level.same ∙ sym (ready i l w)) ∙ (same_cell (flag_at f.sides i) i ∙ c.table.live i l);
+          kept =
+              λ i l w.
+              ap (λ (z : Bool). get_or begun (cell_place n z i) 0)
+              (ap (λ (z : Bool). take_side kind z (marked f.marks i)) level.same ∙ sym (ready i l w)) ∙ (same_cell (flag_at f.sides i) i ∙ c.table.live i l);
           apart = λ i l. apart_now kind true level.same i;
           turned = level.same ∙ sym (not_not f.current);
           left = λ k l m. ap (λ (z : Bool). get_or begun (mark_place n (row kind z) k) 0) level.same ∙ (same_mark (row kind f.current) k ∙ c.table.marks k l);
@@ -279,7 +294,17 @@ module _ (kind : Kind) (n : ℕ) (ws : List ℕ) (f : FrontView) (b : BackView) 
     cells = c.cells;
     agrees = c.agrees;
     ended = λ z. absurd (omega arith);
-    opened = λ _. still_open o refl refl refl (record { touched = o.left.touched; kept = o.left.kept; apart = o.left.apart; turned = o.left.turned; left = λ k l m. o.left.left k l (omega (arith, none)); swapped = λ p k l m. absurd (omega arith) });
+    opened =
+        λ _.
+        still_open o refl refl
+        refl (record {
+          touched = o.left.touched;
+          kept = o.left.kept;
+          apart = o.left.apart;
+          turned = o.left.turned;
+          left = λ k l m. o.left.left k l (omega (arith, none));
+          swapped = λ p k l m. absurd (omega arith);
+        });
     looked = λ _. record { some = some; tick = refl; taken = λ r at. (sym o.tick ∙ ap (λ (z : Round). z.tick) (same_Some o.round r (sym o.at ∙ at)), λ i t at'. absurd (none-some t at')) };
     fresh = λ w. absurd (true≢false w);
     fetched = λ k m e. absurd (none-some m e);
@@ -303,7 +328,8 @@ module _ (kind : Kind) (n : ℕ) (ws : List ℕ) (f : FrontView) (b : BackView) 
       fetched_words e = set ws next (left_in e found)
 
       fetched_right : (k m : ℕ) → slice_get (b.marks ++ found ∷ []) k ≡ Some m → m ≡ get_or f.last k 0
-      fetched_right k m e = ⊎_elim (c.fetched k m) (λ t. sym t.1 ∙ (opened_now.left.left (length b.marks) inside (omega arith) ∙ ap (λ (z : ℕ). get_or f.last z 0) (sym t.0))) (at_end b.marks found m k e)
+      fetched_right k m e =
+          ⊎_elim (c.fetched k m) (λ t. sym t.1 ∙ (opened_now.left.left (length b.marks) inside (omega arith) ∙ ap (λ (z : ℕ). get_or f.last z 0) (sym t.0))) (at_end b.marks found m k e)
 
       longer : length (b.marks ++ found ∷ []) ≡ length b.marks + 1
       longer = length-append b.marks (found ∷ [])
@@ -331,8 +357,10 @@ module _ (kind : Kind) (n : ℕ) (ws : List ℕ) (f : FrontView) (b : BackView) 
       swapped_now Zigzag e p k l m = absurd (zigzag≢ping_pong Zigzag refl p)
       swapped_now PingPong e p k l m =
           let rows : row kind b.current ≡ b.current = ap (λ (z : Kind). row z b.current) e in dite (ℕ_discrete k (length b.marks))
-          (λ h. ap (λ (z : ℕ × Bool). get_or (set ws next 0) (mark_place n z.1 z.0) 0) (λ j. (h j, sym rows j)) ∙ get_or-set_same ws next 0 0 (subst (λ (z : ℕ). next < z) (sym c.table.wide) (mark_inside n (row kind b.current) (length b.marks) inside)))
-          (λ ne. get_or-set_other ws next (mark_place n b.current k) 0 0 (λ h. ne (mark_one n (row kind b.current) b.current (length b.marks) k inside l h).0) ∙ opened_now.left.swapped e k l (omega arith))
+          (λ h. ap (λ (z : ℕ × Bool). get_or (set ws next 0) (mark_place n z.1 z.0) 0)
+          (λ j. (h j, sym rows j)) ∙ get_or-set_same ws next 0 0 (subst (λ (z : ℕ). next < z) (sym c.table.wide) (mark_inside n (row kind b.current) (length b.marks) inside)))
+          (λ ne. get_or-set_other ws next (mark_place n b.current k) 0 0
+          (λ h. ne (mark_one n (row kind b.current) b.current (length b.marks) k inside l h).0) ∙ opened_now.left.swapped e k l (omega arith))
 
       core_fetch_as : (e : Kind) → kind ≡ e → Core kind n (fetched_words e) f (after_fetch found b)
       core_fetch_as e is = let k = c.looked working in let o = opened_now in record {
@@ -420,7 +448,8 @@ module _ (kind : Kind) (n : ℕ) (ws : List ℕ) (f : FrontView) (b : BackView) 
         let words = λ (s : Bool) (i : ℕ). get_or-set_other ws 0 (cell_place n s i) 0 0 (λ e. cell_not_phase n s i (sym e)) in
         let dirt = λ (s : Bool) (j : ℕ). get_or-set_other ws 0 (mark_place n s j) 0 0 (λ e. mark_not_phase n s j (sym e)) in
         let last : Snapshot = record { tick = b.now.tick; taken = padded b.cells b.now.taken } in
-        let right : IsTakenOf o.round last = ((k.taken o.round o.at).0, λ j t a. padded_right n (omega arith) known o.round o.at j t (subst (λ (z : ℕ). slice_get (padded z b.now.taken) j ≡ Some t) c.cells a)) in record {
+        let right : IsTakenOf o.round
+        last = ((k.taken o.round o.at).0, λ j t a. padded_right n (omega arith) known o.round o.at j t (subst (λ (z : ℕ). slice_get (padded z b.now.taken) j ≡ Some t) c.cells a)) in record {
           table = record {
             wide = length-set ws 0 0 ∙ c.table.wide;
             fits = c.table.fits;
@@ -451,7 +480,8 @@ module _ (kind : Kind) (n : ℕ) (ws : List ℕ) (f : FrontView) (b : BackView) 
       λ j d at. ⊎_elim (c.agrees j d) (λ t. (o.round, ap (slice_get f.rounds) t.0 ∙ o.at, subst (IsTakenOf o.round) t.1 (k.taken o.round o.at))) (at_end b.done b.now d j at)
 
   pub touched_now : (r : Round) → b.working ≡ true → slice_get f.rounds (length b.done) ≡ Some r → r.touched ≡ touched_of kind b.cells f.last
-  touched_now r e at = let o = c.opened (c.looked e).some in ap (λ (z : Round). z.touched) (same_Some r o.round (sym at ∙ o.at)) ∙ (o.left.touched ∙ ap (λ (z : ℕ). touched_of kind z f.last) (sym c.cells))
+  touched_now r e at =
+      let o = c.opened (c.looked e).some in ap (λ (z : Round). z.touched) (same_Some r o.round (sym at ∙ o.at)) ∙ (o.left.touched ∙ ap (λ (z : ℕ). touched_of kind z f.last) (sym c.cells))
 
 -- the knowledge of both when they meet at phase x
 pub meets : (kind : Kind) (n : ℕ) (ws : List ℕ) (f : FrontView) (b : BackView) → Core kind n ws f b → (e : Bool) → eqb (get_or ws 0 0) 0 ≡ e → (w : Bool) → b.working ≡ w

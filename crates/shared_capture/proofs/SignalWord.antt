@@ -64,7 +64,8 @@ others_spent stored loaded p o q r j (In ticks) np nq k = absurd (nq k.0)
 others_spent stored loaded p o q r j (Both first second) np nq k = absurd (np k.0)
 
 -- the stored and the loaded ticks stay, with these two seats
-kept_at : {s t : State (Unit {0}) SignalView} (k : Kept s) (p q : ℕ) → t.words ≡ last_of k.stored ∷ [] → ((j : ℕ) (v : SignalView) → get_elem? t.views j ≡ maybe.some v → Knows k.stored p k.loaded q j v) → Kept t
+kept_at : {s t : State (Unit {0}) SignalView} (k : Kept s) (p q : ℕ) → t.words ≡ last_of k.stored ∷ []
+    → ((j : ℕ) (v : SignalView) → get_elem? t.views j ≡ maybe.some v → Knows k.stored p k.loaded q j v) → Kept t
 kept_at k p q word each = record { stored = k.stored; out_at = p; loaded = k.loaded; in_at = q; word = word; are_stored = k.are_stored; each_seat = each }
 
 -- ---- the steps

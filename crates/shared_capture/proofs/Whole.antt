@@ -1,5 +1,7 @@
 -- Both seats in one store: the effect of takes, marks and meetings on its content.
-use Rattle.std.proofs.Common.{rules, ◌≡◌, ◌≢◌, ◌↔◌, ◌⊎◌, ℕ, suc, zero, ◌+◌, ◌-◌, ◌<◌, ◌≤◌, Bool, List, [], ◌∷◌, ◌++◌, length, drop, get_or, Option, Some, None, option_map, sym, refl, ap, ◌∙◌, subst, inl, inr, arith, true, false, length-append}
+use Rattle.std.proofs.Common.{rules, ◌≡◌, ◌≢◌, ◌↔◌, ◌⊎◌, ℕ, suc, zero, ◌+◌, ◌-◌, ◌<◌, ◌≤◌, Bool, List, [], ◌∷◌, ◌++◌, length}
+use Rattle.std.proofs.Common.{drop, get_or, Option, Some, None, option_map, sym, refl, ap, ◌∙◌, subst, inl, inr, arith, true}
+use Rattle.std.proofs.Common.{false, length-append}
 use Rattle.std.proofs.lemmas.List.{length-drop}
 use Rattle.std.proofs.lemmas.List.Elements.{All-append}
 use Rattle.std.proofs.lemmas.Bool.{true≢false, false≢true}
@@ -84,7 +86,9 @@ module _ (f : FrontState) (b : BackState) (ok : IsJoined f b) where
   last = last_round f.rounds
 
   length_left_as : (w : Bool) → b.working ≡ w → length (left_as w (length b.now.taken) last) ≡ Rattle.std.proofs.Common.cond w (b.cells - length b.now.taken) 0
-  length_left_as true e = let long = ok.long e in length-drop (length b.now.taken) (entries last.touched last.words) ∙ ap (λ (z : ℕ). z - length b.now.taken) (length_entries last.touched last.words (long.1 ∙ sym long.0) ∙ long.0)
+  length_left_as true e =
+      let long = ok.long e in length-drop (length b.now.taken) (entries last.touched last.words) ∙ ap
+      (λ (z : ℕ). z - length b.now.taken) (length_entries last.touched last.words (long.1 ∙ sym long.0) ∙ long.0)
   length_left_as false e = refl
 
   pub all_taken : (content_of f b).left ≡ [] → b.working ≡ true → length b.now.taken ≡ b.cells
@@ -154,7 +158,8 @@ module _ (f : FrontState) (b : BackState) (ok : IsJoined f b) where
     takes_some = let long = ok.long working in
         let head : drop i (entries last.touched last.words) ≡ then_some (flag_at last.touched i) (get_or last.words i 0) ∷ drop (suc i) (entries last.touched last.words) =
         entries_from last.touched last.words i (long.1 ∙ sym long.0) (omega (arith, long.0, inside)) in
-        let left : (content_of f b).left ≡ then_some (flag_at last.touched i) (get_or last.words i 0) ∷ drop (suc i) (entries last.touched last.words) = ap (λ (w : Bool). left_as w i last) working ∙ head in record {
+        let left : (content_of f b).left ≡ then_some (flag_at last.touched i) (get_or last.words i 0)
+        ∷ drop (suc i) (entries last.touched last.words) = ap (λ (w : Bool). left_as w i last) working ∙ head in record {
           gives = ap Some (right ∙ sym (shown_entry (flag_at last.touched i) (get_or last.words i 0))) ∙ sym (ap (λ (l : List (Option ℕ)). option_map taken_of (slice_get l 0)) left);
           rest = ap (λ (l : List (Option ℕ)). record (content_of f b) { left = l })
               ((ap (λ (w : Bool). left_as w (length c.now.taken) last) on ∙ ap (λ (z : ℕ). drop z (entries last.touched last.words)) more) ∙ sym (ap (λ (l : List (Option ℕ)). drop 1 l) left));
@@ -162,7 +167,8 @@ module _ (f : FrontState) (b : BackState) (ok : IsJoined f b) where
 
   -- ## A mark, and a meeting after it
 
-  pub joined_begun : (h : FrontState) (c : BackState) (closed : Bool) → f.closed ≡ true → (h.pair ≡ f.pair) × (h.live ≡ f.live) → h.rounds ≡ f.rounds ++ round 1 f.live f.touched ∷ [] → length h.touched ≡ length h.live
+  pub joined_begun : (h : FrontState) (c : BackState) (closed : Bool) → f.closed ≡ true → (h.pair ≡ f.pair) × (h.live ≡ f.live)
+      → h.rounds ≡ f.rounds ++ round 1 f.live f.touched ∷ [] → length h.touched ≡ length h.live
       → MetBack b c → Agree h.rounds (snapshots c) → KnowsOpen closed (record h { closed = closed }) c
       → IsJoined (record h { closed = closed }) c × ((content_of (record h { closed = closed }) c).left ≡ entries f.touched f.live)
   joined_begun h c closed shut same rounds long met agree level =
@@ -182,7 +188,8 @@ module _ (f : FrontState) (b : BackState) (ok : IsJoined f b) where
           ticks = subst AreFirst (sym rounds) (All-append (λ (r : Round). r.tick ≤ 1) f.rounds (round 1 f.live f.touched ∷ []) ok.ticks (search rules));
           long = λ _. (ap (λ (z : Round). length z.words) is ∙ (ok.cells ∙ sym cells), ap (λ (z : Round). length z.touched) is ∙ (ok.marks ∙ sym cells), omega (arith, ap length fresh));
         },
-        ap (λ (w : Bool). left_as w (length c.now.taken) (last_round h.rounds)) on ∙ (ap (λ (z : List Taken). drop (length z) (entries (last_round h.rounds).touched (last_round h.rounds).words)) fresh ∙ ap (λ (z : Round). entries z.touched z.words) is),
+        ap (λ (w : Bool). left_as w (length c.now.taken) (last_round h.rounds)) on
+            ∙ (ap (λ (z : List Taken). drop (length z) (entries (last_round h.rounds).touched (last_round h.rounds).words)) fresh ∙ ap (λ (z : Round). entries z.touched z.words) is),
       )
 
 -- a mark leaves the entries of the words and marks as they were
@@ -190,23 +197,30 @@ pub marks_entries : (old new : Content) → length old.touched ≡ length old.li
 marks_entries old new long live left = record {
   live = live;
   cells = ap length left ∙ length_entries old.touched old.live long;
-  left = λ i word at. subst (λ (l : List (Option ℕ)). (slice_get l i ≡ Some (Some word)) ⊎ ((slice_get l i ≡ Some None) × (slice_get old.touched i ≡ Some false))) (sym left) (entry_at old.touched old.live i word long at);
+  left =
+      λ i word at.
+      subst (λ (l : List (Option ℕ)). (slice_get l i ≡ Some (Some word))
+      ⊎ ((slice_get l i ≡ Some None) × (slice_get old.touched i ≡ Some false))) (sym left) (entry_at old.touched old.live i word long at);
 }
 
 -- ## The same, of a front that met
 
-pub taken_met : (f : FrontState) (b : BackState) (ok : IsJoined f b) (a c : BackState) (t : Taken) (g : FrontState) → g ≡ record f { closed = g.closed } → b.working ≡ true → length b.now.taken < b.cells
+pub taken_met : (f : FrontState) (b : BackState) (ok : IsJoined f b) (a c : BackState) (t : Taken) (g : FrontState)
+    → g ≡ record f { closed = g.closed } → b.working ≡ true → length b.now.taken < b.cells
     → (a.pair ≡ b.pair) × (a.cells ≡ b.cells) × (a.done ≡ b.done) × (a.working ≡ b.working) → a.now.taken ≡ b.now.taken ++ t ∷ [] → MetBack a c → Agree g.rounds (snapshots c) → KnowsOpen g.closed g c
     → IsJoined g c × Takes (content_of f b) (Some t) (content_of g c)
 taken_met f b ok a c t g is working inside same taken met agree level =
-    let go : Agree f.rounds (snapshots c) → KnowsOpen g.closed (record f { closed = g.closed }) c → IsJoined (record f { closed = g.closed }) c × Takes (content_of f b) (Some t) (content_of (record f { closed = g.closed }) c) =
+    let go : Agree f.rounds (snapshots c) → KnowsOpen g.closed (record f { closed = g.closed }) c
+    → IsJoined (record f { closed = g.closed }) c × Takes (content_of f b) (Some t) (content_of (record f { closed = g.closed }) c) =
     λ agree level. (joined_taken f b ok a c t g.closed working inside same taken met agree level, takes_some f b ok a c t g.closed working inside same taken met agree level) in
     let k = go (subst (λ (z : FrontState). Agree z.rounds (snapshots c)) is agree) (subst (λ (z : FrontState). KnowsOpen g.closed z c) is level) in
     subst (λ (z : FrontState). IsJoined z c × Takes (content_of f b) (Some t) (content_of z c)) (sym is) k
 
-pub begun_met : (f : FrontState) (b : BackState) (ok : IsJoined f b) (h : FrontState) (c : BackState) (g : FrontState) → g ≡ record h { closed = g.closed } → f.closed ≡ true → (h.pair ≡ f.pair) × (h.live ≡ f.live) → h.rounds ≡ f.rounds ++ round 1 f.live f.touched ∷ [] → length h.touched ≡ length h.live
+pub begun_met : (f : FrontState) (b : BackState) (ok : IsJoined f b) (h : FrontState) (c : BackState) (g : FrontState)
+    → g ≡ record h { closed = g.closed } → f.closed ≡ true → (h.pair ≡ f.pair) × (h.live ≡ f.live) → h.rounds ≡ f.rounds ++ round 1 f.live f.touched ∷ [] → length h.touched ≡ length h.live
     → MetBack b c → Agree g.rounds (snapshots c) → KnowsOpen g.closed g c
     → IsJoined g c × ((content_of g c).left ≡ entries f.touched f.live)
 begun_met f b ok h c g is shut same rounds long met agree level =
-    let k = joined_begun f b ok h c g.closed shut same rounds long met (subst (λ (z : FrontState). Agree z.rounds (snapshots c)) is agree) (subst (λ (z : FrontState). KnowsOpen g.closed z c) is level) in
+    let k = joined_begun f b ok h c g.closed shut same rounds long met
+    (subst (λ (z : FrontState). Agree z.rounds (snapshots c)) is agree) (subst (λ (z : FrontState). KnowsOpen g.closed z c) is level) in
     subst (λ (z : FrontState). IsJoined z c × ((content_of z c).left ≡ entries f.touched f.live)) (sym is) k

@@ -45,8 +45,11 @@ cover_leads newest old new (Err refusal) is moves = tt
 cover_leads newest old new (Ok given) is moves = record {
   on = λ past stands.
       let made = MovesOn.on moves past stands in
-      let at = is past stands in
-      (past_after past (move.Cover newest) given, made.stands, (given, subst (λ n. Moves (record { past = past; state = old }) (move.Cover n) given (record { past = past_after past (move.Cover newest) given; state = new })) at made, refl));
+      let at = is past stands in (
+        past_after past (move.Cover newest) given,
+        made.stands,
+        (given, subst (λ n. Moves (record { past = past; state = old }) (move.Cover n) given (record { past = past_after past (move.Cover newest) given; state = new })) at made, refl),
+      );
 }
 
 -- a line that is many steps of a keeper
@@ -142,7 +145,8 @@ open_leads : (line : Line) (old new : OpenState) (said : List ℕ) → Leads lin
 open_leads line old new said leads method = record { on = λ from at. on_open line old new said from leads method at }
 
 -- the same, by the facts on the line and on the core
-pub opening_leads : (meaning : Option Line) (line : Line) (method : Method) (cells : ℕ) (core new : Option OpenState) (past : Past) (opened : OpenState) → meaning ≡ Some line → line ≡ Open method cells
+pub opening_leads : (meaning : Option Line) (line : Line) (method : Method) (cells : ℕ) (core new : Option OpenState)
+    (past : Past) (opened : OpenState) → meaning ≡ Some line → line ≡ Open method cells
     → new ≡ Some opened → opened.method ≡ method → IsCoreAt past opened.state → Opens cells (record { past = past; state = opened.state }) → LineLeads meaning core (codes "ready 0") new
 opening_leads meaning line method cells core new past opened means opening is same stands opens = rw (means, opening, is) (opens_leads method cells core past opened same stands opens)
 

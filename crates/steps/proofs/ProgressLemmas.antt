@@ -122,8 +122,10 @@ breaks_between script left refusal = record { on = λ input prior stands. rw (ap
 
 -- a fault after what was written for the input so far
 pub cut_behind : (known left before middle after : Option (List ℕ)) (script : ScriptState) (front : List ℕ) (refusal : Refusal)
-    → ((input : List ℕ) → known ≡ Some input → (rest : List ℕ) × (left ≡ Some rest) × ((written : List ℕ) × Appends before middle written × Stands input script rest written)) → Appends middle after front
-    → ((rest : List ℕ) → left ≡ Some rest → (bytes : List ℕ) × (rest ≡ bytes) × BreaksOff script bytes front refusal) → IfSome known (λ input. (written : List ℕ) × IsCutOff input written refusal × Appends before after written)
+    → ((input : List ℕ) → known ≡ Some input → (rest : List ℕ) × (left ≡ Some rest)
+    × ((written : List ℕ) × Appends before middle written × Stands input script rest written)) → Appends middle after front
+    → ((rest : List ℕ) → left ≡ Some rest → (bytes : List ℕ) × (rest ≡ bytes) × BreaksOff script bytes front refusal)
+    → IfSome known (λ input. (written : List ℕ) × IsCutOff input written refusal × Appends before after written)
 cut_behind known left before middle after script front refusal stands appends breaks = if_some _ _ (λ input is.
     let so_far = stands input is in
     let run = so_far.2 in
@@ -159,7 +161,8 @@ leads_more {old} {middle} {new} {bytes} {more} written text said all one two is 
     subst (λ (l : List ℕ). LeadsOn old (bytes ++ more) new l) (append_assoc written text said ∙ ap (λ l. written ++ l) (sym is)) (leads_then one two)
 
 -- within a piece no part of the next answer is written
-pub breaks_at : {old middle : ScriptState} (piece left : List ℕ) (i : ℕ) (written : List ℕ) (refusal : Refusal) → LeadsOn old (take i piece) middle written → BreaksOff old (piece ++ left) written refusal
+pub breaks_at : {old middle : ScriptState} (piece left : List ℕ) (i : ℕ) (written : List ℕ) (refusal : Refusal)
+    → LeadsOn old (take i piece) middle written → BreaksOff old (piece ++ left) written refusal
 breaks_at {old} {middle} piece left i written refusal leads =
     subst (λ (l : List ℕ). BreaksOff old l written refusal) (rest_of_piece piece left i)
     (subst (λ (l : List ℕ). BreaksOff old (take i piece ++ (drop i piece ++ left)) l refusal) (append-nil written) (breaks_after leads (breaks_between middle (drop i piece ++ left) refusal)))

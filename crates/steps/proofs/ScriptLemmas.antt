@@ -126,7 +126,8 @@ cut_text (line ∷ lines) from last text front replies is =
     ]
 
 -- a cut of the answers to some lines is also a cut of the answers to more lines
-pub cut_off : (input : List ℕ) (lines more : List (List ℕ)) (front : List ℕ) (refusal : Refusal) → lines_of input ≡ lines ++ more → IsCut None lines front → (refusal ≡ NoMemory → ⊥) → IsCutOff input front refusal
+pub cut_off : (input : List ℕ) (lines more : List (List ℕ)) (front : List ℕ) (refusal : Refusal) → lines_of input ≡ lines ++ more
+    → IsCut None lines front → (refusal ≡ NoMemory → ⊥) → IsCutOff input front refusal
 cut_off input lines more front refusal split cut device = record {
   answered = cut.answered;
   later = cut.later ++ more;

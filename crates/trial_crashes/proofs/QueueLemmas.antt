@@ -24,6 +24,10 @@ one_more (records.Switch tick ∷ queue) actions h = absurd h
 -- records that fit after some ticks fit with them in front
 pub fits_behind : (queue rest : List Record) (count : ℕ) → AreTicks queue → count + length queue ≤ 1000 → QueueFits 0 (count + length queue) rest → QueueFits 0 count (queue ++ rest)
 fits_behind [] rest count h few fits = subst (λ n. QueueFits 0 n rest) (let e : count + 0 ≡ count = omega arith in e) fits
-fits_behind (records.Tick tick ∷ queue) rest count h few fits =
-    (omega (arith, few), omega (arith, few), fits_behind queue rest (count + 1) h (omega (arith, few)) (subst (λ n. QueueFits 0 n rest) (let e : count + length (records.Tick tick ∷ queue) ≡ count + 1 + length queue = omega arith in e) fits))
+fits_behind (records.Tick tick ∷ queue) rest count h few fits = (
+  omega (arith, few),
+  omega (arith, few),
+  fits_behind queue rest (count + 1) h (omega (arith, few))
+      (subst (λ n. QueueFits 0 n rest) (let e : count + length (records.Tick tick ∷ queue) ≡ count + 1 + length queue = omega arith in e) fits),
+)
 fits_behind (records.Switch tick ∷ queue) rest count h few fits = absurd h

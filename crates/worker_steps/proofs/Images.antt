@@ -36,4 +36,5 @@ filled_from r before o (t ∷ taken) unchanged shows long =
 
 pub filled_is_marked : (r : Round) (s : Snapshot) (before : List ℕ) → IsTakenOf r s → IsUnchanged before r → length s.taken ≡ length r.words → filled_words s.taken before ≡ r.words
 filled_is_marked r s before taken unchanged long =
-    filled_from r before 0 s.taken unchanged (λ i t is. taken.1 i t is ∙ ap (shown r) (let e : i ≡ 0 + i = omega arith in e)) (sym long ∙ (let e : length s.taken ≡ 0 + length s.taken = omega arith in e))
+    filled_from r before 0 s.taken unchanged (λ i t is. taken.1 i t is ∙ ap (shown r) (let e : i ≡ 0 + i = omega arith in e))
+    (sym long ∙ (let e : length s.taken ≡ 0 + length s.taken = omega arith in e))

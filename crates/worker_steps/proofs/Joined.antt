@@ -78,7 +78,8 @@ ticks_counted end (Tick ended ∷ items) go = let rest = ticks_counted (end_afte
 ticks_counted end (Switch number ∷ items) go = let rest = ticks_counted (end_after end (Switch number)) items go.1 in let is = go.0.0 in omega (arith, rest, is)
 ticks_counted end (Stop ∷ items) go = ticks_counted end items go.1
 
-pub all_counted : (m : Playing) (ticks : List (List Action)) (b : BeginAt (length ticks) m.to.items) → IsMutator m → AreNumbered m.to.items → m.ended ≡ length (ticks ++ ticks_in (records_of m.to.items))
+pub all_counted : (m : Playing) (ticks : List (List Action)) (b : BeginAt (length ticks) m.to.items) → IsMutator m
+    → AreNumbered m.to.items → m.ended ≡ length (ticks ++ ticks_in (records_of m.to.items))
 all_counted m ticks b is numbered =
     let behind = ticks_counted (record { base = length ticks; count = 0 }) b.0 (subst AreNumbered b.1 numbered) in
     let end : items_end m.to.items ≡ items_end (Start (length ticks) ∷ b.0) = ap items_end b.1 in
@@ -129,7 +130,8 @@ is_idle phases.OpeningSync = inr (λ e. cc e)
 is_idle phases.Down = inr (λ e. cc e)
 
 -- the target of a round that the keeper hasn't begun is as it was before the round
-found_are : (cells : ℕ) (now : Snapshot) (images : Images) (image_a image_b : List ℕ → Type 0) → images.round ≡ None → ImagesAre cells images image_a image_b → ImagesAre cells (begun_by now images) image_a image_b
+found_are : (cells : ℕ) (now : Snapshot) (images : Images) (image_a image_b : List ℕ → Type 0) → images.round ≡ None
+    → ImagesAre cells images image_a image_b → ImagesAre cells (begun_by now images) image_a image_b
 found_are cells now images image_a image_b none are = record {
   newest = are.newest;
   target = λ left is. inl (subst (λ r. IsTarget cells images.before r (image_of left)) none (are.target left is));
@@ -150,7 +152,8 @@ module _ {D : Type 0} (file : D → List ℕ) (leaves : D → List ℕ → Type 
   Ends = AreImages writer.keeper.cells first back.done (now_in back.working back.now) (newest_tick writer.keeper.newest) (leaves writer.image_a) (leaves writer.image_b)
 
   -- the keeper is at the round
-  ends_busy : (after : Images) → images_after (Newest first) back.done ≡ Newest after → back.working ≡ true → ImagesStand file leaves writer (imaging.with_work back.now (images_after (Newest first) back.done)) → Ends
+  ends_busy : (after : Images) → images_after (Newest first) back.done ≡ Newest after → back.working ≡ true
+      → ImagesStand file leaves writer (imaging.with_work back.now (images_after (Newest first) back.done)) → Ends
   ends_busy after is working stands =
       let now : ImagesStand file leaves writer (Newest (begun_by back.now after)) = subst (λ i. ImagesStand file leaves writer (imaging.with_work back.now i)) is stands in
       record {

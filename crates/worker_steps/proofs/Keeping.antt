@@ -11,11 +11,15 @@ use Rattle.worker_steps.specs.Kept.{KeepsFront}
 use Rattle.worker_steps.specs.Running.{MayPlay, MayOpen}
 
 -- the mutator became `mid`, whose front is of the same pair, and pushed these items
-keeps_as : (old : Playing) {mid : Playing} (new : Playing) (more : List Item) → new ≡ mid → mid.front.pair ≡ old.front.pair → mid.heard.pair ≡ old.heard.pair → mid.opening ≡ old.opening → mid.every ≡ old.every → mid.to.end ≡ old.to.end → mid.asks.end ≡ old.asks.end → mid.to.items ≡ old.to.items ++ more → KeepsFront old new
-keeps_as old new more is pair heard opening every end asks items = subst (KeepsFront old) (sym is) (record { pair = pair; end = end; asks = asks; flag = heard; items = (more, items); opening = opening; every = every })
+keeps_as : (old : Playing) {mid : Playing} (new : Playing) (more : List Item) → new ≡ mid → mid.front.pair ≡ old.front.pair
+    → mid.heard.pair ≡ old.heard.pair → mid.opening ≡ old.opening → mid.every ≡ old.every → mid.to.end ≡ old.to.end
+    → mid.asks.end ≡ old.asks.end → mid.to.items ≡ old.to.items ++ more → KeepsFront old new
+keeps_as old new more is pair heard opening every end asks items =
+    subst (KeepsFront old) (sym is) (record { pair = pair; end = end; asks = asks; flag = heard; items = (more, items); opening = opening; every = every })
 
 -- the mutator pushed no item
-keeps_all : (old : Playing) {mid : Playing} (new : Playing) → new ≡ mid → mid.front.pair ≡ old.front.pair → mid.heard.pair ≡ old.heard.pair → mid.opening ≡ old.opening → mid.every ≡ old.every → mid.to.end ≡ old.to.end → mid.asks.end ≡ old.asks.end → mid.to.items ≡ old.to.items → KeepsFront old new
+keeps_all : (old : Playing) {mid : Playing} (new : Playing) → new ≡ mid → mid.front.pair ≡ old.front.pair
+    → mid.heard.pair ≡ old.heard.pair → mid.opening ≡ old.opening → mid.every ≡ old.every → mid.to.end ≡ old.to.end → mid.asks.end ≡ old.asks.end → mid.to.items ≡ old.to.items → KeepsFront old new
 keeps_all old new is pair heard opening every end asks items = keeps_as old new [] is pair heard opening every end asks (items ∙ sym (append-nil old.to.items))
 
 same : (old new : Playing) → new ≡ old → KeepsFront old new
@@ -38,11 +42,13 @@ then old mid new a b = record {
 pub mark_keeps : (old new : Playing) → MarksIfDue old new → KeepsFront old new
 mark_keeps old new (inl kept) = same old new kept.0
 mark_keeps old new (inr (inl found)) = keeps_all old new found.0 found.1.0 refl refl refl refl refl refl
-mark_keeps old new (inr (inr (inl marks))) = keeps_as old new (Switch old.ended ∷ []) marks.0 marks.1.0.0 refl refl refl (ap (λ (t : Pushing). t.end) marks.2) refl (ap (λ (t : Pushing). t.items) marks.2)
+mark_keeps old new (inr (inr (inl marks))) =
+    keeps_as old new (Switch old.ended ∷ []) marks.0 marks.1.0.0 refl refl refl (ap (λ (t : Pushing). t.end) marks.2) refl (ap (λ (t : Pushing). t.items) marks.2)
 mark_keeps old new (inr (inr (inr lost))) = keeps_all old new lost.0 lost.1.0.0 refl refl refl refl refl refl
 
 tick_keeps : (old : Playing) (asked : AskedBatch) (new : Playing) → PushesTick old asked new ⊎ LosesTick old asked new → KeepsFront old new
-tick_keeps old asked new (inl pushes) = keeps_as old new (Tick pushes.1.0 ∷ []) pushes.0 pushes.1.1.pair refl refl refl (ap (λ (t : Pushing). t.end) pushes.1.2) refl (ap (λ (t : Pushing). t.items) pushes.1.2)
+tick_keeps old asked new (inl pushes) =
+    keeps_as old new (Tick pushes.1.0 ∷ []) pushes.0 pushes.1.1.pair refl refl refl (ap (λ (t : Pushing). t.end) pushes.1.2) refl (ap (λ (t : Pushing). t.items) pushes.1.2)
 tick_keeps old asked new (inr lost) = keeps_all old new lost.0 lost.1.1.pair refl refl refl refl refl refl
 
 refused_keeps : (stuck : Type 0) (old : Playing) (reason : Refusal) (new : Playing) → RefusesBatch stuck old reason new → KeepsFront old new

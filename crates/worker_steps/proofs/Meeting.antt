@@ -38,7 +38,8 @@ all_ticks items late is =
     ap ticks_in (records_behind items late) ∙ ticks_behind (records_of items) (records_of late)
     ∙ ap (λ l. ticks_in (records_of items) ++ l) is ∙ append-nil (ticks_in (records_of items))
 
-module _ (laws : Laws) (origin : List ℕ) (ticks : List (List Action)) (words : List ℕ) (first images : Images) (start logs : Logs) (items : List Item) (rounds : List Round) (done : List Snapshot) (now : Option Snapshot) where
+module _ (laws : Laws) (origin : List ℕ) (ticks : List (List Action)) (words : List ℕ) (first images : Images) (start logs : Logs)
+    (items : List Item) (rounds : List Round) (done : List Snapshot) (now : Option Snapshot) where
   -- the items are played
   played : IsSettled origin ticks words first start → (p : IsPlayed words (length ticks) items rounds) → IsTaken (length origin) rounds done now
       → Played laws origin start (ticks ++ ticks_in (records_of (items ++ p.late))) p.reported.words (records_of (items ++ p.late)) first done now
@@ -54,7 +55,8 @@ module _ (laws : Laws) (origin : List ℕ) (ticks : List (List Action)) (words :
   taken_logs : (all : List (List Action)) (popped rest : List Record) (covers : List ℕ) → (acknowledged : ℕ) → IsKept origin all acknowledged images start (popped ++ rest)
       → (opened : (tick : ℕ) → Contains covers tick → tick ≤ images.tick) → start.pending ≡ [] → start.switch ≡ None → (l : IsLogged (content_in start) popped covers logs)
       → TakenUp laws origin all images covers opened start l.given logs.switch
-  taken_logs all popped rest covers acknowledged k opened none idle l = taken_up laws origin all images covers opened l.given popped l.more rest start logs.switch (acknowledged, k) (none, idle) l.order
+  taken_logs all popped rest covers acknowledged k opened none idle l =
+      taken_up laws origin all images covers opened l.given popped l.more rest start logs.switch (acknowledged, k) (none, idle) l.order
 
   -- the segments have the same content, with or without the group in work
   same_reported : (given : List Record) (a : Logs) → content_kept a ≡ after_records (content_kept start) given → start.pending ≡ [] → a.pending ≡ [] → a.switch ≡ logs.switch

@@ -114,7 +114,8 @@ module _ (laws : Laws) (origin : List ℕ) (logs : Logs) where
       → Keeps ticks words images ((queue ++ first ∷ []) ++ rest) → Keeps ticks words images (queue ++ first ∷ rest)
   switch_moved ticks queue rest first words images k = subst (λ q. Keeps ticks words images q) (append_assoc queue (first ∷ []) rest) k
 
-  none_moved : (ticks : List (List Action)) (queue : List Record) (words words' : List ℕ) (images : Images) → words ≡ words' → Keeps ticks words images queue → Keeps (ticks ++ []) words' images (queue ++ [])
+  none_moved : (ticks : List (List Action)) (queue : List Record) (words words' : List ℕ) (images : Images) → words ≡ words'
+      → Keeps ticks words images queue → Keeps (ticks ++ []) words' images (queue ++ [])
   none_moved ticks queue words words' images same k =
       subst (λ l. Keeps (ticks ++ []) l images (queue ++ [])) same
       (subst (λ t. Keeps t words images (queue ++ [])) (sym (append-nil ticks)) (subst (λ q. Keeps ticks words images q) (sym (append-nil queue)) k))
@@ -155,7 +156,8 @@ module _ (laws : Laws) (origin : List ℕ) (logs : Logs) where
       let all : length ticks ≡ s.tick = omega (arith, rest.count, is, tick) in
       let empty : ImageRound = record { tick = s.tick; taken = [] } in
       let more : IsKept origin ticks k.0 (record images { round = Some (record { tick = length ticks; taken = [] }) }) logs (queue ++ records.Switch (length ticks) ∷ []) =
-      laws.events.mark origin ticks k.0 images (record images { round = Some (record { tick = length ticks; taken = [] }) }) logs queue k.1 rest.none (omega (arith, rest.tick, rest.count, some)) refl in
+      laws.events.mark origin ticks k.0 images (record images { round = Some (record { tick = length ticks; taken = [] }) }) logs
+      queue k.1 rest.none (omega (arith, rest.tick, rest.count, some)) refl in
       let begun : IsKept origin ticks k.0 (record images { round = Some empty }) logs (queue ++ records.Switch s.tick ∷ []) =
       subst (λ n. IsKept origin ticks k.0 (record images { round = Some (record { tick = n; taken = [] }) }) logs (queue ++ records.Switch n ∷ [])) all more in
       let filled : List ℕ = filled_words s.taken images.words in
@@ -198,7 +200,8 @@ module _ (laws : Laws) (origin : List ℕ) (logs : Logs) where
       let next = ran ticks queue images w leads.0 ended k leads.1 in
       let still : AtRest (end_after end (Tick ended)) (ticks ++ ended.tick.list ∷ []) before images =
       record { none = rest.none; tick = rest.tick; words = rest.words; count = omega (arith, rest.count, length-append ticks (ended.tick.list ∷ [])) } in
-      let more = plays items (end_after end (Tick ended)) (ticks ++ ended.tick.list ∷ []) before (queue ++ records.Tick ended.tick ∷ []) images done now leads.0 v next still go.1 leads.2 unchanged agree long whole in
+      let more = plays items (end_after end (Tick ended)) (ticks ++ ended.tick.list ∷ []) before
+      (queue ++ records.Tick ended.tick ∷ []) images done now leads.0 v next still go.1 leads.2 unchanged agree long whole in
       (more.0, more.1, tick_moved ticks (ticks_in (records_of items)) ended.tick.list queue (records_of items) (records.Tick ended.tick) v.words more.0 more.2)
   plays (Switch number ∷ items) end ticks before queue images [] None w v k rest go leads unchanged agree long whole = absurd (omega (arith, long))
   plays (Switch number ∷ items) end ticks before queue images [] (Some s) w v k rest go leads unchanged agree long whole =

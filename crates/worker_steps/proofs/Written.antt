@@ -91,8 +91,11 @@ module _ (laws : Laws) (origin : List ℕ) (ticks : List (List Action)) (images 
       let first = brought logs all rest (records.Switch tick) (given ++ more) idle n k in
       let begun : Logs = record logs { switch = Some tick } in
       let after : Logs = switched_to begun tick in
-      let on = written given n.behind more rest after
-      (first.0, laws.whole.switched origin ticks first.0 images begun tick (n.behind ++ rest) (laws.whole.switch origin ticks first.0 images logs tick (n.behind ++ rest) first.1 idle) refl) (refl, refl) n.left in
+      let on = written given n.behind more rest after (
+        first.0,
+        laws.whole.switched origin ticks first.0 images begun tick (n.behind ++ rest)
+            (laws.whole.switch origin ticks first.0 images logs tick (n.behind ++ rest) first.1 idle) refl,
+      ) (refl, refl) n.left in
       record { next = on.next; left = on.left; keeps = on.keeps; idle = on.idle; leaves = on.leaves; reported = on.reported }
 
   -- the same with the switch in work taken
@@ -104,7 +107,8 @@ module _ (laws : Laws) (origin : List ℕ) (ticks : List (List Action)) (images 
     pub switch_is : next.switch ≡ switch
     pub reported : content_kept next ≡ after_records (content_kept logs) given
 
-  pub taken_up : (given all more rest : List Record) (logs : Logs) (switch : Option ℕ) → KeepsLog logs (all ++ rest) → is_idle logs → LeavesOut covers all (given ++ with_work switch more) → TakenUp logs given switch
+  pub taken_up : (given all more rest : List Record) (logs : Logs) (switch : Option ℕ) → KeepsLog logs (all ++ rest)
+      → is_idle logs → LeavesOut covers all (given ++ with_work switch more) → TakenUp logs given switch
   taken_up given all more rest logs None k idle leaves =
       let on = written given all more rest logs k idle leaves in
       record { next = on.next; queue = on.left ++ rest; keeps = on.keeps; none = on.idle.0; switch_is = on.idle.1; reported = on.reported }
@@ -142,12 +146,14 @@ switch_same newest a l (Some tick) base kept none h =
 all_kept : (a l : Logs) → SameReported a l → a.kept ++ a.pending ≡ l.kept ++ l.pending
 all_kept a l s = ap (λ p. a.kept ++ p) s.none ∙ append-nil a.kept ∙ s.kept
 
-pub follows_same : (ticks : List (List Action)) (acknowledged k newest : ℕ) (a l : Logs) → SameReported a l → LogsFollow ticks acknowledged newest a → (k ≤ l.base + length l.kept) ⊎ (k ≤ newest) → LogsFollow ticks k newest l
+pub follows_same : (ticks : List (List Action)) (acknowledged k newest : ℕ) (a l : Logs) → SameReported a l
+    → LogsFollow ticks acknowledged newest a → (k ≤ l.base + length l.kept) ⊎ (k ≤ newest) → LogsFollow ticks k newest l
 follows_same ticks acknowledged k newest a l s f reached = record {
   taken = subst (λ b. FollowsFrom ticks b (l.kept ++ l.pending)) s.base (subst (FollowsFrom ticks a.base) (all_kept a l s) f.taken);
   acknowledges = reached;
   before = subst (λ b. LeadsTo ticks newest b l.before) s.base (subst (LeadsTo ticks newest a.base) s.before f.before);
-  switch = switch_same newest a l l.switch s.base s.kept s.one_job (subst (λ o. IfSome o (λ tick. (a.base < tick) × (a.pending ≡ []) × Reaches (a.base + length a.kept) tick newest)) s.switch f.switch);
+  switch =
+      switch_same newest a l l.switch s.base s.kept s.one_job (subst (λ o. IfSome o (λ tick. (a.base < tick) × (a.pending ≡ []) × Reaches (a.base + length a.kept) tick newest)) s.switch f.switch);
 }
 
 pub marks_same : (later : List ℕ) (images : Images) (a l : Logs) → SameReported a l → FollowMarks later images a → FollowMarks later images l

@@ -9,7 +9,8 @@ use Rattle.workers.specs.declared.checkpointer.round.ImageWriter.{ImageWriter}
 use Rattle.workers.specs.declared.log_writer.Log.{Log}
 use Rattle.worker_threads.specs.Opening.{files_of}
 
-pub both_sound : {D O : Type 0} (file : D → List ℕ) (leaves : D → List ℕ → Type 0) (first : List ℕ) (ticks : List (List Action)) (acknowledged : ℕ) (parts files : FourFiles D) (r : Result O (FourFiles D × Refusal))
+pub both_sound : {D O : Type 0} (file : D → List ℕ) (leaves : D → List ℕ → Type 0) (first : List ℕ) (ticks : List (List Action))
+    (acknowledged : ℕ) (parts files : FourFiles D) (r : Result O (FourFiles D × Refusal))
     (writer : O → ImageWriter D) (log : O → Log D) → parts ≡ files
     → IfOk r (λ o. files_of (writer o) (log o) ≡ parts) → IfErr r (λ e. (e.0 ≡ parts) × (e.1 ≡ Refusal.NoMemory))
     → AreSound file leaves files first ticks acknowledged

@@ -27,11 +27,41 @@ use Rattle.std.specs.contracts.alloc.Global as Heap
 use Rattle.std.specs.contracts.impls.GlobalAllocator.TheImpl.{ghosts}
 
 pub mutator_sends : (M G : RattleType) (m : method.Ghosts M.Denot) (h : gate.Ghosts G.Denot)
-    → IsSend G → IsSend AskReceiver.the_row → IsSend (Front.the_row M m) → IsSend ItemSender.the_row → IsSend SignalIn.the_row → IsSend Tick.the_row → IsSend Waiting.the_row → IsSend (Mutator.the_row M G m h)
+    → IsSend G → IsSend AskReceiver.the_row → IsSend (Front.the_row M m) → IsSend ItemSender.the_row → IsSend SignalIn.the_row
+    → IsSend Tick.the_row → IsSend Waiting.the_row → IsSend (Mutator.the_row M G m h)
 mutator_sends M G m h gates asks front to heard tick waiting =
     let T = Mutator.TheInside.the_type M G m h in
-    view_send (Mutator.TheInside.the_row M G m h) _ _ _ _ (recorded_send (Struct (shape T)) T.D T.to T.to_one (struct_send (shape T)
-    (gates, (search (sendable, crosses) depth 60 fits 20000, (asks, (front, (to, (search (sendable, crosses) depth 60 fits 20000, (search (sendable, crosses) depth 60 fits 20000, (heard, (search (sendable, crosses) depth 60 fits 20000, (search (sendable, crosses) depth 60 fits 20000, (search (sendable, crosses) depth 60 fits 20000, (search (sendable, crosses) depth 60 fits 20000, (search (sendable, crosses) depth 60 fits 20000, tt)))))))))))))))
+    view_send (Mutator.TheInside.the_row M G m h) _ _ _ _ (recorded_send (Struct (shape T)) T.D T.to T.to_one (struct_send (shape T) (
+      gates,
+      (
+        search (sendable, crosses) depth 60 fits 20000,
+        (
+          asks,
+          (
+            front,
+            (
+              to,
+              (
+                search (sendable, crosses) depth 60 fits 20000,
+                (
+                  search (sendable, crosses) depth 60 fits 20000,
+                  (
+                    heard,
+                    (
+                      search (sendable, crosses) depth 60 fits 20000,
+                      (
+                        search (sendable, crosses) depth 60 fits 20000,
+                        (search (sendable, crosses) depth 60 fits 20000, (search (sendable, crosses) depth 60 fits 20000, (search (sendable, crosses) depth 60 fits 20000, tt))),
+                      ),
+                    ),
+                  ),
+                ),
+              ),
+            ),
+          ),
+        ),
+      ),
+    )))
 
 publisher_sends : IsSend SignalOut.the_row → IsSend Publisher.the_row
 publisher_sends covers =
@@ -43,8 +73,19 @@ pub checkpointer_sends : (M D G : RattleType) (m : method.Ghosts M.Denot) (d : d
     → IsSend D → IsSend G → IsSend (Back.the_row M m) → IsSend SignalOut.the_row → IsSend (Checkpointer.the_row M D G m d h)
 checkpointer_sends M D G m d h disks gates back covers =
     let T = Checkpointer.TheInside.the_type M D G m d h in
-    view_send (Checkpointer.TheInside.the_row M D G m d h) _ _ _ _ (recorded_send (Struct (shape T)) T.D T.to T.to_one (struct_send (shape T)
-    (gates, (back, (publisher_sends covers, (search (sendable, crosses) depth 60 fits 20000, (search (sendable, crosses) depth 60 fits 20000, (search (sendable, crosses) depth 60 fits 20000, (search (sendable, crosses) depth 60 fits 20000, tt)))))))))
+    view_send (Checkpointer.TheInside.the_row M D G m d h) _ _ _ _ (recorded_send (Struct (shape T)) T.D T.to T.to_one (struct_send (shape T) (
+      gates,
+      (
+        back,
+        (
+          publisher_sends covers,
+          (
+            search (sendable, crosses) depth 60 fits 20000,
+            (search (sendable, crosses) depth 60 fits 20000, (search (sendable, crosses) depth 60 fits 20000, (search (sendable, crosses) depth 60 fits 20000, tt))),
+          ),
+        ),
+      ),
+    )))
 
 pub answers_send : IsSend (Ring.the_row Waiting.the_row Heap.the_row ghosts) → IsSend Answers.the_row
 answers_send waiting =
@@ -58,5 +99,28 @@ pub log_writer_sends : (D G : RattleType) (d : disk.Ghosts D.Denot) (h : gate.Gh
 log_writer_sends D G d h disks gates from covers ring waiting reported =
     let T = LogWriter.TheInside.the_type D G d h in
     let answers = answers_send waiting in
-    view_send (LogWriter.TheInside.the_row D G d h) _ _ _ _ (recorded_send (Struct (shape T)) T.D T.to T.to_one (struct_send (shape T)
-    (gates, (from, (covers, (reported, (search (sendable, crosses) depth 60 fits 20000, (ring, (answers, (search (sendable, crosses) depth 60 fits 20000, (search (sendable, crosses) depth 60 fits 20000, (search (sendable, crosses) depth 60 fits 20000, (search (sendable, crosses) depth 60 fits 20000, tt)))))))))))))
+    view_send (LogWriter.TheInside.the_row D G d h) _ _ _ _ (recorded_send (Struct (shape T)) T.D T.to T.to_one (struct_send (shape T) (
+      gates,
+      (
+        from,
+        (
+          covers,
+          (
+            reported,
+            (
+              search (sendable, crosses) depth 60 fits 20000,
+              (
+                ring,
+                (
+                  answers,
+                  (
+                    search (sendable, crosses) depth 60 fits 20000,
+                    (search (sendable, crosses) depth 60 fits 20000, (search (sendable, crosses) depth 60 fits 20000, (search (sendable, crosses) depth 60 fits 20000, tt))),
+                  ),
+                ),
+              ),
+            ),
+          ),
+        ),
+      ),
+    )))

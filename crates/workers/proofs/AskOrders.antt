@@ -1,5 +1,6 @@
 -- Each step of the ends of the channel of asks keeps the turns of the sessions.
-use Rattle.std.proofs.Common.{arith, ◌≡◌, ◌≢◌, ◌<◌, ◌≤◌, ◌+◌, ◌==◌, ◌⊎◌, inl, inr, ℕ, zero, suc, cond, true, false, List, [], ◌∷◌, ◌++◌, All, length, length-append, append-nil, set, sym, refl, ap, ap₂, ◌∙◌, subst}
+use Rattle.std.proofs.Common.{arith, ◌≡◌, ◌≢◌, ◌<◌, ◌≤◌, ◌+◌, ◌==◌, ◌⊎◌, inl, inr, ℕ, zero, suc, cond, true, false, List, [], ◌∷◌}
+use Rattle.std.proofs.Common.{◌++◌, All, length, length-append, append-nil, set, sym, refl, ap, ap₂, ◌∙◌, subst}
 use mathlib.Core.Option.{some, some-injective, some-ne-none}
 use lib.ListN.{get_elem?}
 use Rattle.std.specs.Prelude.{AllPairs}

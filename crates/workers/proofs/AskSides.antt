@@ -10,7 +10,8 @@ use Rattle.workers.specs.AskOrder.{AreNumbered, taken_of, taken}
 use Rattle.workers.specs.AskChannel.{IsTaking}
 
 module _ {E : Type 0} (end : AskReceiveEnd) (pass pass' : Pass AskedBatch AskView) (M : Type 0) where
-  pub taking_after : (r : Result AskedBatch E) → MatchResult r (λ x. taken (view pass) x (view pass')) (λ _. (view pass' ≡ view pass) × M) → IsSeatAt (receives_on end.end) pass' → IsTaking end pass → IsTaking end pass'
+  pub taking_after : (r : Result AskedBatch E)
+      → MatchResult r (λ x. taken (view pass) x (view pass')) (λ _. (view pass' ≡ view pass) × M) → IsSeatAt (receives_on end.end) pass' → IsTaking end pass → IsTaking end pass'
   taking_after (Ok x) rule at s = record {
     at = at;
     takes = rule.0 ∙ ap (λ (u : AskView). Takes (taken_of u)) (sym rule.0);

@@ -50,7 +50,8 @@ module _ {D : Type 0} (called : D → Call → Bool → D → Type 0) where
   turned a new_a b new_b (inr calls) = inl (calls.1, calls.0)
 
   -- for two files by their slots, and therefore by their names
-  pub by_slot : (slot : Slot) (a new_a b new_b : D) → OneCalledAtMostOnce called (of_slot slot a b) (of_slot slot new_a new_b) (of_slot slot b a) (of_slot slot new_b new_a) → OneCalledAtMostOnce called a new_a b new_b
+  pub by_slot : (slot : Slot) (a new_a b new_b : D)
+      → OneCalledAtMostOnce called (of_slot slot a b) (of_slot slot new_a new_b) (of_slot slot b a) (of_slot slot new_b new_a) → OneCalledAtMostOnce called a new_a b new_b
   by_slot A a new_a b new_b calls = calls
   by_slot B a new_a b new_b calls = turned a new_a b new_b calls
 

@@ -35,7 +35,8 @@ leads_now opening items stopped front h up =
     subst (λ (l : List Item). Leads (begun opening) l (world_of front)) (ap (λ (l : List Item). items ++ l) all.0 ∙ append-nil items)
     (subst (Leads (begun opening) (items ++ h.late)) all.1 h.leads)
 
-pub history_more : (opening : List ℕ) (items : List Item) (stopped : Bool) (x : Item) (front front' : FrontState) → History opening items stopped front → stopped ≡ false → after_item (world_of front) x (world_of front') → History opening (items ++ x ∷ []) stopped front'
+pub history_more : (opening : List ℕ) (items : List Item) (stopped : Bool) (x : Item) (front front' : FrontState)
+    → History opening items stopped front → stopped ≡ false → after_item (world_of front) x (world_of front') → History opening (items ++ x ∷ []) stopped front'
 history_more opening items stopped x front front' h up after = record {
   late = [];
   is_late = inl refl;
@@ -49,7 +50,8 @@ history_more opening items stopped x front front' h up after = record {
 -- ---- cells that aren't touched
 
 -- another round is the last one
-last_unchanged : (before : List ℕ) (rounds : List Round) (r s : Round) → AreUnchanged before (rounds ++ r ∷ []) → ((words : List ℕ) → IsUnchanged words r → IsUnchanged words s) → AreUnchanged before (rounds ++ s ∷ [])
+last_unchanged : (before : List ℕ) (rounds : List Round) (r s : Round) → AreUnchanged before (rounds ++ r ∷ [])
+    → ((words : List ℕ) → IsUnchanged words r → IsUnchanged words s) → AreUnchanged before (rounds ++ s ∷ [])
 last_unchanged before [] r s are same = (same before are.0, tt)
 last_unchanged before (q ∷ rounds) r s are same = (are.0, last_unchanged q.words rounds r s are.1 same)
 
@@ -65,7 +67,8 @@ unchanged_ran opening old new rounds keeps are =
     (last_unchanged opening old.rounds (round 0 old.live old.touched) (round 0 new.live new.touched) are (λ words same i no. let kept = keeps.cells i no in kept.1 ∙ same i kept.0))
 
 -- a round was opened
-unchanged_marked : (opening : List ℕ) (old new : FrontState) (tick : ℕ) → new.live ≡ old.live → new.rounds ≡ marked_rounds old tick → AreUnchanged opening (marked_rounds old 0) → AreUnchanged opening (marked_rounds new 0)
+unchanged_marked : (opening : List ℕ) (old new : FrontState) (tick : ℕ) → new.live ≡ old.live
+    → new.rounds ≡ marked_rounds old tick → AreUnchanged opening (marked_rounds old 0) → AreUnchanged opening (marked_rounds new 0)
 unchanged_marked opening old new tick live rounds are =
     let this : Round = round tick old.live old.touched in
     subst (λ (l : List Round). AreUnchanged opening (l ++ round 0 new.live new.touched ∷ [])) (sym rounds)
@@ -78,11 +81,13 @@ abbrev UpTo : ℕ → List Round → Type 0
 UpTo base rounds = All (λ (r : Round). r.tick ≤ base) rounds
 
 up_to_more : (base most : ℕ) (rounds : List Round) (r : Round) → base ≤ most → UpTo base rounds → r.tick ≤ most → UpTo most (rounds ++ r ∷ [])
-up_to_more base most rounds r le known this = All-push (λ (s : Round). s.tick ≤ most) rounds r (All-weaker (λ (s : Round). s.tick ≤ base) (λ (s : Round). s.tick ≤ most) (λ s l. omega (arith, l, le)) rounds known) this
+up_to_more base most rounds r le known this =
+    All-push (λ (s : Round). s.tick ≤ most) rounds r (All-weaker (λ (s : Round). s.tick ≤ base) (λ (s : Round). s.tick ≤ most) (λ s l. omega (arith, l, le)) rounds known) this
 
 module _ (m : Playing) (front : FrontState) (heard : SignalState) (is : IsMutator m) (up : m.stopped ≡ false) where
   -- a batch was run, whose tick is owed
-  pub owes_tick : (ended : Ended) (asked : AskedBatch) (requests : List Request) → ended.answer.asked ≡ asked → IsTaken m asked → SameRounds m.front front → ended.tick.list ≡ accepted_of requests m.front.live
+  pub owes_tick : (ended : Ended) (asked : AskedBatch) (requests : List Request) → ended.answer.asked ≡ asked → IsTaken m asked
+      → SameRounds m.front front → ended.tick.list ≡ accepted_of requests m.front.live
       → ended.answer.text ≡ answer requests m.front.live ended.answer.number → ended.answer.number ≡ m.ended + 1 → front.live ≡ words_after requests m.front.live
       → (m.ended < TICK_MAX) × (m.since < SEGMENT_TICKS) → (HasFlags m.front → KeepsUntouched m.front front)
       → IsMutator (record m { front = front; heard = heard; stopped = true; owed = Some (Tick ended) })
@@ -220,12 +225,14 @@ module _ (m : Playing) (to : Pushing) (is : IsMutator m) (owed : Option Item) (n
   })
 
 -- the last round is that of the switch
-pub last_owed : (w : World) (items : List Item) (number : ℕ) (v : World) → Leads w (items ++ Switch number ∷ []) v → (before : List Round) × (r : Round) × (v.rounds ≡ before ++ r ∷ []) × (r.tick ≡ number)
+pub last_owed : (w : World) (items : List Item) (number : ℕ) (v : World) → Leads w (items ++ Switch number ∷ []) v
+    → (before : List Round) × (r : Round) × (v.rounds ≡ before ++ r ∷ []) × (r.tick ≡ number)
 last_owed w [] number v lead = (w.rounds, round number w.words lead.1.1.0, ap (λ (x : World). x.rounds) lead.2 ∙ lead.1.1.1, refl)
 last_owed w (x ∷ items) number v lead = last_owed lead.0 items number v lead.2
 
 -- a mutator of a world whose start has ended
-pub begins : (asks : Taking) (front : FrontState) (to : Pushing) (heard : SignalState) (opening : List ℕ) (tick every : ℕ) → front.rounds ≡ [] → to.items ≡ Start tick ∷ [] → opening ≡ front.live → tick ≤ TICK_MAX → HasFlags front → AreNumbered asks.taken
+pub begins : (asks : Taking) (front : FrontState) (to : Pushing) (heard : SignalState) (opening : List ℕ) (tick every : ℕ)
+    → front.rounds ≡ [] → to.items ≡ Start tick ∷ [] → opening ≡ front.live → tick ≤ TICK_MAX → HasFlags front → AreNumbered asks.taken
     → IsMutator (record { asks = asks; front = front; to = to; heard = heard; opening = opening; ended = tick; since = 0; every = every; stopped = false; owed = None })
 begins asks front to heard opening tick every none start words most flags numbered = record {
   history = record {
@@ -278,7 +285,9 @@ reported_stop m to is pushed =
         rounds = h.rounds;
         all_reported = h.all_reported;
       };
-      in_turn = subst (PlaysInTurn m.asks.taken) (sym pushed) (subst (PlaysInTurn m.asks.taken) (append-nil (m.to.items ++ Stop ∷ [])) (plays_stop m.asks.taken m.to.items [] (subst (PlaysInTurn m.asks.taken) (sym (append-nil m.to.items)) is.in_turn)));
+      in_turn =
+          subst (PlaysInTurn m.asks.taken) (sym pushed)
+          (subst (PlaysInTurn m.asks.taken) (append-nil (m.to.items ++ Stop ∷ [])) (plays_stop m.asks.taken m.to.items [] (subst (PlaysInTurn m.asks.taken) (sym (append-nil m.to.items)) is.in_turn)));
       counts = subst (λ (e : QueueEnd). Counts e m.ended m.since) (sym last) is.counts;
       rising = λ up. subst (λ (e : QueueEnd). UpTo e.base m.front.rounds) (sym last) (is.rising up);
       most = is.most;

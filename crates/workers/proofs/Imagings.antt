@@ -1,5 +1,6 @@
 -- A step of the checkpointer's round keeps keeper, files and back in step.
-use Rattle.std.proofs.Common.{arith, ◌≡◌, ◌↔◌, ◌⊎◌, inl, inr, ℕ, suc, ◌+◌, ◌<◌, Bool, true, false, IsTrue, List, [], ◌∷◌, ◌++◌, length, drop, Option, Some, None, All, refl, sym, ap, subst, ◌∙◌, length-append}
+use Rattle.std.proofs.Common.{arith, ◌≡◌, ◌↔◌, ◌⊎◌, inl, inr, ℕ, suc, ◌+◌, ◌<◌, Bool, true, false, IsTrue, List, [], ◌∷◌, ◌++◌}
+use Rattle.std.proofs.Common.{length, drop, Option, Some, None, All, refl, sym, ap, subst, ◌∙◌, length-append}
 use Rattle.std.specs.Prelude.{⊤, get_or, MatchOption, if◌then◌else◌}
 use Rattle.std.proofs.lemmas.List.Elements.{All-push}
 use Rattle.file_format.specs.declared.slot.Slot.{Slot}
@@ -18,7 +19,8 @@ use Rattle.image_files.specs.Taken.{filled_words, word_of}
 use Rattle.shared_capture.specs.declared.view.Snapshot.{Snapshot}
 use Rattle.shared_capture.specs.States.{BackState, TookBack, SameDone, FoundRound}
 use Rattle.workers.specs.declared.checkpointer.round.ImageWriter.{ImageWriter}
-use Rattle.workers.specs.Imaging.{round_of, with_work, images_after, newest_after, HasRound, AreInStep, IsInWork, RoundRuns, IsDone, ImagesStand, FollowsRounds, WriterFits, ReportsFaults, Imaging, IsCheckpointer, Turned}
+use Rattle.workers.specs.Imaging.{round_of, with_work, images_after, newest_after, HasRound, AreInStep, IsInWork, RoundRuns}
+use Rattle.workers.specs.Imaging.{IsDone, ImagesStand, FollowsRounds, WriterFits, ReportsFaults, Imaging, IsCheckpointer, Turned}
 use Rattle.workers.specs.Publishing.{IsNoneDue, ArePublished}
 
 -- ---- the words of a round
@@ -53,7 +55,8 @@ work_taken : (cell : Taken) (now next : Snapshot) (images : ImageFiles) → next
 work_taken cell now next (NoneYet images) tick taken = ap (λ (r : Round). NoneYet (record { round = Some r })) (round_taken cell now next [] tick taken)
 work_taken cell now next (Newest images) tick taken = ap (λ (r : Round). Newest (record images { round = Some r })) (round_taken cell now next images.words tick taken)
 
-work_opened : (now : Snapshot) (images : ImageFiles) (round : Round) → round_in (with_work now images) ≡ Some round → with_opened round (with_work now images) ≡ with_opened (round_of now images) images
+work_opened : (now : Snapshot) (images : ImageFiles) (round : Round) → round_in (with_work now images) ≡ Some round
+    → with_opened round (with_work now images) ≡ with_opened (round_of now images) images
 work_opened now (NoneYet images) round is = (let same : round_of now (NoneYet images) ≡ round = (let e = is in cc) in ap (λ (r : Round). with_opened r (NoneYet images)) (sym same))
 work_opened now (Newest images) round is = (let same : round_of now (Newest images) ≡ round = (let e = is in cc) in ap (λ (r : Round). with_opened r (Newest images)) (sym same))
 
@@ -117,14 +120,16 @@ same_back given keeper next old new (inr takes) =
     let same = takes.1.same in
     record { same = (same.0, same.1, same.5); done = same.2; working = same.3; tick = same.4 }
 
-taken_on : (given : ImageAnswer) (keeper next : Progress) (old new : BackState) → NotOpened given → TakesCells given keeper next old new → cells_taken keeper ≡ length old.now.taken → cells_taken next ≡ length new.now.taken
+taken_on : (given : ImageAnswer) (keeper next : Progress) (old new : BackState) → NotOpened given
+    → TakesCells given keeper next old new → cells_taken keeper ≡ length old.now.taken → cells_taken next ≡ length new.now.taken
 taken_on given keeper next old new not (inl stays) taken =
     not_opened given ⊤ (cells_taken next ≡ cells_taken keeper) not stays.1 ∙ (taken ∙ ap (λ (b : BackState). length b.now.taken) (sym stays.0))
 taken_on given keeper next old new not (inr takes) taken =
     let more = ap (λ (l : List Taken). length l) takes.1.gives.2 in
     omega (arith, takes.2, taken, more, length-append old.now.taken (takes.0 ∷ []))
 
-pub step_on : (given : ImageAnswer) (keeper next : Progress) (old new : BackState) → NotOpened given → TakesCells given keeper next old new → Ends given keeper next → next.cells ≡ keeper.cells → HasRound keeper
+pub step_on : (given : ImageAnswer) (keeper next : Progress) (old new : BackState) → NotOpened given
+    → TakesCells given keeper next old new → Ends given keeper next → next.cells ≡ keeper.cells → HasRound keeper
     → AreInStep keeper old → AreInStep next new
 step_on given keeper next old new not takes ends cells busy step =
     let at = step.round busy in
@@ -170,7 +175,8 @@ images_on : (given : ImageAnswer) (cells : ℕ) (first next : ImageFiles) (old n
 images_on answer.Idle cells first next old new not s = s.1 ∙ ap (λ (b : BackState). with_work b.now (images_after first b.done)) (sym s.2)
 images_on answer.Working cells first next old new not s = elim s.2 [
   | inl same ↦ same.0 ∙ ap (λ (b : BackState). with_work b.now (images_after first b.done)) (sym same.1)
-  | inr cell ↦ cell.2 ∙ (work_taken cell.0 old.now new.now (images_after first old.done) cell.1.same.4 cell.1.gives.2 ∙ ap (λ (d : List Snapshot). with_work new.now (images_after first d)) (sym cell.1.same.2))
+  | inr cell ↦ cell.2
+      ∙ (work_taken cell.0 old.now new.now (images_after first old.done) cell.1.same.4 cell.1.gives.2 ∙ ap (λ (d : List Snapshot). with_work new.now (images_after first d)) (sym cell.1.same.2))
 ]
 images_on (answer.Opened tick) cells first next old new not s = absurd (not tick refl)
 images_on answer.Down cells first next old new not s = s.2 ∙ ap (λ (b : BackState). with_work b.now (images_after first b.done)) (sym s.3)
@@ -181,7 +187,8 @@ module _ {D : Type 0} (file : D → List ℕ) (leaves : D → List ℕ → Type 
   GoesOn given old new back next = IsTrue honest → (images : ImageFiles) → ImagesStand file leaves old images
       → (after : ImageFiles) × ImagesStand file leaves new after × StepsImages TookBack old.keeper.cells images given after back next
 
-  pub follows_on : (given : ImageAnswer) (opening old new : ImageWriter D) (back next : BackState) → NotOpened given → TakesCells given old.keeper new.keeper back next → Ends given old.keeper new.keeper
+  pub follows_on : (given : ImageAnswer) (opening old new : ImageWriter D) (back next : BackState) → NotOpened given
+      → TakesCells given old.keeper new.keeper back next → Ends given old.keeper new.keeper
       → ((given ≡ answer.Idle) ↔ (old.keeper.phase ≡ Idle)) → ((given ≡ answer.Down) ↔ (new.keeper.phase ≡ Down)) → OnWorking given (new.keeper.phase ≡ Idle → ⊥) → HasRound old.keeper
       → GoesOn given old new back next → FollowsRounds file leaves honest opening old back → FollowsRounds file leaves honest opening new next
   follows_on given opening old new back next not takes ends idle down on busy goes f =
@@ -200,7 +207,8 @@ module _ {D : Type 0} (file : D → List ℕ) (leaves : D → List ℕ → Type 
       }
 
   -- the image is opened, and the back ends the round
-  pub follows_opened : (tick : ℕ) (opening old new : ImageWriter D) (back next done : BackState) → TakesCells (answer.Opened tick) old.keeper new.keeper back next → new.keeper ≡ opened_keeper old.keeper
+  pub follows_opened : (tick : ℕ) (opening old new : ImageWriter D) (back next done : BackState)
+      → TakesCells (answer.Opened tick) old.keeper new.keeper back next → new.keeper ≡ opened_keeper old.keeper
       → cells_taken old.keeper ≡ old.keeper.cells → HasRound old.keeper → AreInStep old.keeper back
       → done.done ≡ next.done ++ next.now ∷ [] → done.cells ≡ next.cells
       → GoesOn (answer.Opened tick) old new back next → FollowsRounds file leaves honest opening old back → FollowsRounds file leaves honest opening new done
@@ -212,7 +220,8 @@ module _ {D : Type 0} (file : D → List ℕ) (leaves : D → List ℕ → Type 
       let wide : done.cells ≡ back.cells = cells ∙ ap (λ (b : BackState). b.cells) stays.0 in
       let whole : length back.now.taken ≡ back.cells = sym at.taken ∙ (all ∙ step.cells) in
       let newest : new.keeper.newest ≡ Some (target_of (newest_after opening.keeper.newest back.done), back.now.tick) =
-      ap (λ (k : Progress). k.newest) opened ∙ (ap (λ (n : Option (Slot × ℕ)). Some (target_of n, old.keeper.tick)) f.newest ∙ ap (λ (t : ℕ). Some (target_of (newest_after opening.keeper.newest back.done), t)) at.tick) in
+      ap (λ (k : Progress). k.newest) opened
+      ∙ (ap (λ (n : Option (Slot × ℕ)). Some (target_of n, old.keeper.tick)) f.newest ∙ ap (λ (t : ℕ). Some (target_of (newest_after opening.keeper.newest back.done), t)) at.tick) in
       record {
         newest = newest ∙ (sym (newest_more opening.keeper.newest back.done back.now) ∙ ap (λ (d : List Snapshot). newest_after opening.keeper.newest d) (sym grown));
         whole = subst (λ (d : List Snapshot). All (λ (s : Snapshot). length s.taken ≡ done.cells) d) (sym grown)
@@ -286,7 +295,8 @@ module _ {D : Type 0} (file : D → List ℕ) (leaves : D → List ℕ → Type 
   abbrev pub Begins : (tick : ℕ) → ImageWriter D → (next : ImageWriter D) → Type 0
   Begins tick old next = (images : ImageFiles) → ImagesStand file leaves old images → ImagesStand file leaves next (with_round tick images)
 
-  pub begun_follows : (tick : ℕ) (opening old next : ImageWriter D) (back found : BackState) → next.keeper ≡ begun_keeper tick old.keeper → old.keeper.phase ≡ Idle → SameDone back found → IsFresh tick found
+  pub begun_follows : (tick : ℕ) (opening old next : ImageWriter D) (back found : BackState)
+      → next.keeper ≡ begun_keeper tick old.keeper → old.keeper.phase ≡ Idle → SameDone back found → IsFresh tick found
       → Begins tick old next → FollowsRounds file leaves honest opening old back → FollowsRounds file leaves honest opening next found
   begun_follows tick opening old next back found begun idle same is begins f = record {
     newest = ap (λ (k : Progress). k.newest) begun ∙ (f.newest ∙ ap (λ (d : List Snapshot). newest_after opening.keeper.newest d) (sym same.2));
@@ -302,7 +312,8 @@ module _ {D : Type 0} (file : D → List ℕ) (leaves : D → List ℕ → Type 
         };
   }
 
-  pub checkpointer_goes_on : (next : Imaging D) (found : BackState) → AreInStep next.images.keeper next.back → next.opening.keeper.cells ≡ found.cells → (IsTrue honest → WriterFits file next.images) → FollowsRounds file leaves honest next.opening next.images next.back
+  pub checkpointer_goes_on : (next : Imaging D) (found : BackState) → AreInStep next.images.keeper next.back
+      → next.opening.keeper.cells ≡ found.cells → (IsTrue honest → WriterFits file next.images) → FollowsRounds file leaves honest next.opening next.images next.back
       → RoundRuns found next.images.keeper next.back → ArePublished next.images.keeper.newest next.back.done next.covers
       → (newest : Option (Slot × ℕ)) → newest ≡ newest_after next.opening.keeper.newest found.done → newest_tick newest < found.now.tick
       → IsCheckpointer honest file leaves next
@@ -319,11 +330,14 @@ module _ {D : Type 0} (file : D → List ℕ) (leaves : D → List ℕ → Type 
         omega (arith, newer, ap newest_tick kept, w.1);
   }
 
-pub turned_round : {D : Type 0} (stuck : Type 0) (old next : Imaging D) (tick : ℕ) (found : BackState) → SameDone old.back found → FoundRound old.back tick found → RoundRuns found next.images.keeper next.back
+pub turned_round : {D : Type 0} (stuck : Type 0) (old next : Imaging D) (tick : ℕ) (found : BackState) → SameDone old.back found
+    → FoundRound old.back tick found → RoundRuns found next.images.keeper next.back
     → (next.over ≡ false → next.images.keeper.phase ≡ Idle) → (next.over ≡ true → HasRound next.images.keeper) → (next.over ≡ true → (next.images.keeper.phase ≡ Down) ⊎ stuck) → Turned stuck old next
 turned_round {D} stuck old next tick found same is runs rests busy cause = inr (tick, (is.0, runs.same.2 ∙ is.4, by_over next.over refl))
   where
-    by_over : (over : Bool) → next.over ≡ over → ((next.over ≡ false) × IsDone old.back tick next.back) ⊎ ((next.over ≡ true) × IsInWork old.back tick next.back × (IsNoneDue old.images.keeper.newest tick ⊎ (HasRound next.images.keeper × ((next.images.keeper.phase ≡ Down) ⊎ stuck))))
+    by_over : (over : Bool) → next.over ≡ over
+        → ((next.over ≡ false) × IsDone old.back tick next.back)
+        ⊎ ((next.over ≡ true) × IsInWork old.back tick next.back × (IsNoneDue old.images.keeper.newest tick ⊎ (HasRound next.images.keeper × ((next.images.keeper.phase ≡ Down) ⊎ stuck))))
     by_over false on = (let d = runs.done (rests on) in inl (on, (d.0, d.1 ∙ is.2, d.2 ∙ same.1, d.3 ∙ ap (λ (l : List Snapshot). l ++ d.0 ∷ []) same.2, d.4)))
     by_over true on = (let w = runs.in_work (busy on) in inr (on, (w.0, w.1 ∙ is.2, w.2 ∙ same.2), inr (busy on, cause on)))
 
@@ -341,7 +355,8 @@ answers_round given over tick keeper old found new same is runs rests busy (inr 
 -- ---- a step
 
 -- the result of a look that found a round, if the keeper hasn't begun it
-pub fresh_looked : (number : ℕ) (given : Option ℕ) (back found : BackState) → given ≡ Some number → (back.working ≡ true → (given ≡ Some back.now.tick) × (found ≡ back)) → (back.working ≡ false → FoundRound back number found)
+pub fresh_looked : (number : ℕ) (given : Option ℕ) (back found : BackState) → given ≡ Some number
+    → (back.working ≡ true → (given ≡ Some back.now.tick) × (found ≡ back)) → (back.working ≡ false → FoundRound back number found)
     → (back.working ≡ true → back.now.taken ≡ []) → IsFresh number found
 fresh_looked number given back found is known looked none = by_working back.working refl
   where
@@ -362,7 +377,8 @@ is_idle Idle = inl refl
 is_idle phase = inr (λ e. cc e)
 
 -- the keeper's round is begun
-pub begun_in_step : (tick : ℕ) (keeper next : Progress) (back found : BackState) → next ≡ begun_keeper tick keeper → found.cells ≡ back.cells → IsFresh tick found → AreInStep keeper back → AreInStep next found
+pub begun_in_step : (tick : ℕ) (keeper next : Progress) (back found : BackState) → next ≡ begun_keeper tick keeper
+    → found.cells ≡ back.cells → IsFresh tick found → AreInStep keeper back → AreInStep next found
 begun_in_step tick keeper next back found begun cells is step = record {
   cells = ap (λ (k : Progress). k.cells) begun ∙ (step.cells ∙ sym cells);
   round = λ _. record {
@@ -372,13 +388,15 @@ begun_in_step tick keeper next back found begun cells is step = record {
   };
 }
 
-fits_begun : (keeper next : Progress) (image_a image_b : List ℕ) → next.newest ≡ keeper.newest → ((target newest : List ℕ) → Fits keeper target newest → Fits next target newest) → FitsFiles keeper image_a image_b → FitsFiles next image_a image_b
+fits_begun : (keeper next : Progress) (image_a image_b : List ℕ) → next.newest ≡ keeper.newest
+    → ((target newest : List ℕ) → Fits keeper target newest → Fits next target newest) → FitsFiles keeper image_a image_b → FitsFiles next image_a image_b
 fits_begun keeper next image_a image_b same keeps fits =
     subst (λ (n : Option (Slot × ℕ)). Fits next (of_slot (target_of n) image_a image_b) (of_slot (target_of n) image_b image_a)) (sym same) (keeps _ _ fits)
 
 module _ {D : Type 0} (file : D → List ℕ) (leaves : D → List ℕ → Type 0) (honest : Bool) where
   pub checkpointer_begins : (old : Imaging D) (number : ℕ) (next : ImageWriter D) (found : BackState) → IsCheckpointer honest file leaves old
-      → next.keeper ≡ begun_keeper number old.images.keeper → next.image_a ≡ old.images.image_a → next.image_b ≡ old.images.image_b → old.images.keeper.phase ≡ Idle → SameDone old.back found → IsFresh number found → newest_tick old.images.keeper.newest < number
+      → next.keeper ≡ begun_keeper number old.images.keeper → next.image_a ≡ old.images.image_a
+      → next.image_b ≡ old.images.image_b → old.images.keeper.phase ≡ Idle → SameDone old.back found → IsFresh number found → newest_tick old.images.keeper.newest < number
       → ((target newest : List ℕ) → Fits old.images.keeper target newest → Fits next.keeper target newest) → Begins file leaves honest number old.images next
       → IsCheckpointer honest file leaves (record { back = found; covers = old.covers; images = next; opening = old.opening; over = old.over })
   checkpointer_begins old number next found is begun same_a same_b idle same fresh newer fits begins =
@@ -389,7 +407,9 @@ module _ {D : Type 0} (file : D → List ℕ) (leaves : D → List ℕ → Type 
         fits = λ sure. subst (λ a. FitsFiles next.keeper (file a) (file next.image_b)) (sym same_a)
             (subst (λ b. FitsFiles next.keeper (file old.images.image_a) (file b)) (sym same_b) (fits_begun old.images.keeper next.keeper _ _ newest fits (is.fits sure)));
         follows = begun_follows file leaves honest number old.opening old.images next old.back found begun idle same fresh begins is.follows;
-        published = subst (λ (d : List Snapshot). ArePublished next.keeper.newest d old.covers) (sym same.2) (subst (λ (n : Option (Slot × ℕ)). ArePublished n old.back.done old.covers) (sym newest) is.published);
+        published =
+            subst (λ (d : List Snapshot). ArePublished next.keeper.newest d old.covers) (sym same.2)
+            (subst (λ (n : Option (Slot × ℕ)). ArePublished n old.back.done old.covers) (sym newest) is.published);
         fresh = λ _ _. fresh.none;
         newer = λ _. omega (arith, newer, ap newest_tick newest, fresh.tick);
       }

@@ -30,7 +30,8 @@ pub records_more : (items : List Item) (x : Item) → records_of (items ++ x ∷
 records_more [] x = append-nil (record_of x)
 records_more (y ∷ items) x = ap (λ (l : List Record). record_of y ++ l) (records_more items x) ∙ sym (append_assoc (record_of y) (records_of items) (record_of x))
 
-numbers_after : (end : QueueEnd) (item : Item) (number : ℕ) (waiting : List Unposted) → Goes end item → number + length waiting ≡ end.base + end.count → number + length (waiting ++ answers_of item) ≡ (end_after end item).base + (end_after end item).count
+numbers_after : (end : QueueEnd) (item : Item) (number : ℕ) (waiting : List Unposted) → Goes end item
+    → number + length waiting ≡ end.base + end.count → number + length (waiting ++ answers_of item) ≡ (end_after end item).base + (end_after end item).count
 numbers_after end (Start n) number waiting goes is = absurd goes
 numbers_after end (Tick ended) number waiting goes is = omega (arith, length-append waiting (ended.answer ∷ []), is)
 numbers_after end (Switch n) number waiting goes is = omega (arith, ap length (append-nil waiting), is, goes.0)
@@ -88,11 +89,14 @@ module _ {D : Type 0} (file : D → List ℕ) (leaves : D → List ℕ → Type 
       → IsTrue honest → (logs : Logs) → LogStands file leaves w.opening logs → Writes file leaves log ring.items covers.ticks acked w.down (content_in logs) (records_of w.from.items)
   reported_on covers tick log ring given acked which reported advances = λ h logs stands.
       subst (λ (c : SignalState). Writes file leaves log ring.items c.ticks acked w.down (content_in logs) (records_of w.from.items)) (sym reported)
-      (writes_on file leaves w.log log w.ring.items ring.items tick w.covers.ticks given w.acked acked w.down (content_in logs) (records_of w.from.items) is.follows which (advances h) (is.writes h logs stands))
+      (writes_on file leaves w.log log w.ring.items ring.items tick w.covers.ticks given w.acked acked w.down (content_in logs)
+      (records_of w.from.items) is.follows which (advances h) (is.writes h logs stands))
 
-  pub advanced : (covers : SignalState) (tick : ℕ) (log : Log D) (ring : Buffer Record) (answers : Answering) (given : LogAnswer) (acked : ℕ) → log.keeper.starting ≡ false → (IsTrue honest → FitsFiles log.keeper (file log.a) (file log.b))
+  pub advanced : (covers : SignalState) (tick : ℕ) (log : Log D) (ring : Buffer Record) (answers : Answering) (given : LogAnswer)
+      (acked : ℕ) → log.keeper.starting ≡ false → (IsTrue honest → FitsFiles log.keeper (file log.a) (file log.b))
       → QueueFollows log.keeper ring.items → end_of log.keeper ring.items ≡ end_of w.log.keeper w.ring.items → ring.capacity ≡ w.ring.capacity
-      → answers.room ≡ w.answers.room → answers.answered + length answers.waiting ≡ w.answers.answered + length w.answers.waiting → (w.answers.posted ≡ w.answers.answered → answers.posted ≡ answers.answered) → answers.posted ≤ acked
+      → answers.room ≡ w.answers.room → answers.answered + length answers.waiting ≡ w.answers.answered + length w.answers.waiting
+      → (w.answers.posted ≡ w.answers.answered → answers.posted ≡ answers.answered) → answers.posted ≤ acked
       → (acked ≡ w.acked) ⊎ (given ≡ answer.Acked acked)
       → covers ≡ loaded w.covers tick → (IsTrue honest → LogAdvances file leaves tick w.log log w.ring.items ring.items given)
       → IsLogging file leaves honest (record w { covers = covers; log = log; ring = ring; answers = answers; acked = acked })
@@ -129,7 +133,15 @@ module _ {D : Type 0} (file : D → List ℕ) (leaves : D → List ℕ → Type 
           end = λ up. absurd (let e : true ≡ false = sym down ∙ up in cc);
           ring = is.ring;
           room = ap (λ (a : Answering). a.room) answers_is ∙ is.room;
-          numbers = omega (arith, ap (λ (a : Answering). length a.waiting) answers_is, ap (λ (a : Answering). a.answered) answers_is, popped_numbers item from popped goes, length-append w.answers.waiting (answers_of item), ap length none_waits);
+          numbers =
+              omega (
+                arith,
+                ap (λ (a : Answering). length a.waiting) answers_is,
+                ap (λ (a : Answering). a.answered) answers_is,
+                popped_numbers item from popped goes,
+                length-append w.answers.waiting (answers_of item),
+                ap length none_waits,
+              );
           most = popped_most item from popped goes;
           posted = λ up. absurd (let e : true ≡ false = sym down ∙ up in cc);
           durable = subst (λ (a : Answering). a.posted ≤ w.acked) (sym answers_is) is.durable;
@@ -195,16 +207,26 @@ module _ {D : Type 0} where
     popped = t.popped ∙ (ap (λ (l : List Item). l ++ ys) s.popped ∙ append_assoc u.from.items xs ys);
     end = t.end ∙ s.end;
     ring = t.ring ∙ (ap (λ (b : Buffer Record). let c : Buffer Record = record b { items = b.items ++ records_of ys } in c) s.ring
-        ∙ ap (λ (l : List Record). let b : Buffer Record = record u.ring { items = l } in b) (append_assoc u.ring.items (records_of xs) (records_of ys) ∙ ap (λ (l : List Record). u.ring.items ++ l) (sym (records_append xs ys))));
+        ∙ ap (λ (l : List Record). let b : Buffer Record = record u.ring { items = l } in b)
+        (append_assoc u.ring.items (records_of xs) (records_of ys) ∙ ap (λ (l : List Record). u.ring.items ++ l) (sym (records_append xs ys))));
     answers = t.answers ∙ (ap (λ (a : Answering). let b : Answering = record a { waiting = a.waiting ++ all_answers_of ys } in b) s.answers
-        ∙ ap (λ (l : List Unposted). let a : Answering = record u.answers { waiting = l } in a) (append_assoc u.answers.waiting (all_answers_of xs) (all_answers_of ys) ∙ ap (λ (l : List Unposted). u.answers.waiting ++ l) (sym (answers_append xs ys))));
+        ∙ ap (λ (l : List Unposted). let a : Answering = record u.answers { waiting = l } in a)
+        (append_assoc u.answers.waiting (all_answers_of xs) (all_answers_of ys) ∙ ap (λ (l : List Unposted). u.answers.waiting ++ l) (sym (answers_append xs ys))));
     same = t.same ∙ ap (λ (x : Logging D). let y : Logging D = record x { from = w.from; ring = w.ring; answers = w.answers; over = w.over } in y) s.same;
   }
 
   pub took_few : (u w : Logging D) (more : List Item) → Took u w more → length u.answers.waiting ≤ length u.ring.items → length w.answers.waiting ≤ length w.ring.items
   took_few u w more t few =
       let one = no_more_answers more in
-      omega (arith, ap (λ (a : Answering). length a.waiting) t.answers, ap (λ (b : Buffer Record). length b.items) t.ring, length-append u.answers.waiting (all_answers_of more), length-append u.ring.items (records_of more), one, few)
+      omega (
+        arith,
+        ap (λ (a : Answering). length a.waiting) t.answers,
+        ap (λ (b : Buffer Record). length b.items) t.ring,
+        length-append u.answers.waiting (all_answers_of more),
+        length-append u.ring.items (records_of more),
+        one,
+        few,
+      )
 
 -- if there is no work, nothing is queued
 pub no_work : (keeper : Progress) (queue : List Record) → work_of keeper queue ≡ 0 → queue ≡ []
@@ -224,7 +246,8 @@ module _ {D : Type 0} (file : D → List ℕ) (leaves : D → List ℕ → Type 
     switched = λ number is. absurd (let none = ready_switch log tick logs ready stands in cc);
   }
 
-  begins : (from : Popping) (covers reported_down : SignalState) (log : Log D) (tick : ℕ) → from.items ≡ Start tick ∷ [] → reported_down.ticks ≡ [] → tick ≤ TICK_MAX → IsReady log.keeper tick → (IsTrue honest → FitsFiles log.keeper (file log.a) (file log.b))
+  begins : (from : Popping) (covers reported_down : SignalState) (log : Log D) (tick : ℕ) → from.items ≡ Start tick ∷ []
+      → reported_down.ticks ≡ [] → tick ≤ TICK_MAX → IsReady log.keeper tick → (IsTrue honest → FitsFiles log.keeper (file log.a) (file log.b))
       → IsLogging file leaves honest (writer_at from covers reported_down log tick)
   begins from covers reported_down log tick opened unreported most ready fits =
       let k = log.keeper in
@@ -232,7 +255,9 @@ module _ {D : Type 0} (file : D → List ℕ) (leaves : D → List ℕ → Type 
         started = ready.started;
         fits = fits;
         follows = subst (λ p. QueueFollowsIn p k.base k.count k.next_base []) (sym ready.phase) tt;
-        end = λ up. ap (λ p. end_in p k.base k.count k.next_base []) ready.phase ∙ (ap (λ b. let e : QueueEnd = record { base = b; count = k.count } in e) ready.base ∙ (ap (λ n. let e : QueueEnd = record { base = tick; count = n } in e) ready.count ∙ sym last));
+        end =
+            λ up. ap (λ p. end_in p k.base k.count k.next_base []) ready.phase
+            ∙ (ap (λ b. let e : QueueEnd = record { base = b; count = k.count } in e) ready.base ∙ (ap (λ n. let e : QueueEnd = record { base = tick; count = n } in e) ready.count ∙ sym last));
         ring = refl;
         room = refl;
         numbers = sym (ap (λ (e : QueueEnd). e.base + e.count) last);
@@ -253,8 +278,12 @@ module _ {D : Type 0} (file : D → List ℕ) (leaves : D → List ℕ → Type 
         };
       }
 
-  pub begins_of : (from : Popping) (covers reported_down : SignalState) (log opening : Log D) (ring : Buffer Record) (answers : Answering) (tick : ℕ) → from.items ≡ Start tick ∷ [] → reported_down.ticks ≡ [] → tick ≤ TICK_MAX → IsReady log.keeper tick → (IsTrue honest → FitsFiles log.keeper (file log.a) (file log.b))
-      → ring ≡ (writer_at from covers reported_down log tick).ring → answers ≡ (writer_at from covers reported_down log tick).answers → opening ≡ log → IsLogging file leaves honest (record (writer_at from covers reported_down log tick) { ring = ring; answers = answers; opening = opening })
+  pub begins_of : (from : Popping) (covers reported_down : SignalState) (log opening : Log D) (ring : Buffer Record)
+      (answers : Answering) (tick : ℕ) → from.items ≡ Start tick ∷ [] → reported_down.ticks ≡ [] → tick ≤ TICK_MAX
+      → IsReady log.keeper tick → (IsTrue honest → FitsFiles log.keeper (file log.a) (file log.b))
+      → ring ≡ (writer_at from covers reported_down log tick).ring
+      → answers ≡ (writer_at from covers reported_down log tick).answers → opening ≡ log
+      → IsLogging file leaves honest (record (writer_at from covers reported_down log tick) { ring = ring; answers = answers; opening = opening })
   begins_of from covers reported_down log opening ring answers tick opened unreported most ready fits ring_is answers_is opening_is =
       subst (λ (x : Buffer Record × Answering × Log D). IsLogging file leaves honest (record (writer_at from covers reported_down log tick) { ring = x.0; answers = x.1; opening = x.2 }))
       (λ i. (sym ring_is i, sym answers_is i, sym opening_is i)) (begins from covers reported_down log tick opened unreported most ready fits)

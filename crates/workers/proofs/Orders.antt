@@ -52,7 +52,8 @@ module _ (items : List Item) (views : List View) (k : IsInOrder items views) (id
         order = sym (append_assoc k.taken items (x ∷ [])) ∙ ap (λ (l : List Item). l ++ x ∷ []) k.order;
         numbered = subst AreNumbered same numbered;
         each_seat = set_knows (Knows all k.pushed_at k.taken k.popped_at) views id (V.Pushes (pushed_of v ++ x ∷ [])) (known.0, same)
-            (λ j u ne e. others k.all all k.pushed_at k.pushed_at k.taken k.taken k.popped_at k.popped_at j u (λ h. absurd (ne (h ∙ sym known.0))) (λ _. refl) (λ _. refl) (λ _. refl) (k.each_seat j u e));
+            (λ j u ne e. others k.all all k.pushed_at k.pushed_at k.taken k.taken k.popped_at k.popped_at j u
+            (λ h. absurd (ne (h ∙ sym known.0))) (λ _. refl) (λ _. refl) (λ _. refl) (k.each_seat j u e));
       }
 
 module _ (x : Item) (items : List Item) (views : List View) (k : IsInOrder (x ∷ items) views) (id : ℕ) (v : View) (at : get_elem? views id ≡ some v) where
@@ -68,7 +69,8 @@ module _ (x : Item) (items : List Item) (views : List View) (k : IsInOrder (x �
           order = order;
           numbered = k.numbered;
           each_seat = set_knows (Knows k.all k.pushed_at taken k.popped_at) views id (V.Pops (popped_of v ++ x ∷ [])) (known.0, same)
-              (λ j u ne e. others k.all k.all k.pushed_at k.pushed_at k.taken taken k.popped_at k.popped_at j u (λ _. refl) (λ _. refl) (λ h. absurd (ne (h ∙ sym known.0))) (λ _. refl) (k.each_seat j u e));
+              (λ j u ne e. others k.all k.all k.pushed_at k.pushed_at k.taken taken k.popped_at k.popped_at j u (λ _. refl)
+              (λ _. refl) (λ h. absurd (ne (h ∙ sym known.0))) (λ _. refl) (k.each_seat j u e));
         },
         subst AreNumbered (sym same) (prefix_numbered taken (items) k.all order k.numbered),
       )
@@ -92,7 +94,8 @@ merges_both id xs there ys items views k at apart beside =
     let known = k.each_seat id (V.Pushes xs) at in
     let seen = k.each_seat there (V.Pops ys) (sym (set_else views id there (V.Both xs ys) apart) ∙ beside) in
     kept_at k id id (join_knows (Knows k.all id k.taken id) views id (V.Both xs ys) there V.Spent (refl, refl, known.1, seen.1) tt
-    (λ j v near far e. others k.all k.all k.pushed_at id k.taken k.taken k.popped_at id j v (λ _. refl) (λ h. absurd (near (h ∙ sym known.0))) (λ _. refl) (λ h. absurd (far (h ∙ sym seen.0))) (k.each_seat j v e)))
+    (λ j v near far e. others k.all k.all k.pushed_at id k.taken k.taken k.popped_at id j v (λ _. refl)
+    (λ h. absurd (near (h ∙ sym known.0))) (λ _. refl) (λ h. absurd (far (h ∙ sym seen.0))) (k.each_seat j v e)))
 
 pub merges : (id : ℕ) (v : View) (there : ℕ) (w : View) → v ≡ V.Pushes (pushed_of v) → w ≡ V.Pops (popped_of w) → Merges IsInOrder id v there w (whole v w) V.Spent
 merges id v there w is is' = subst (λ (z : View × View). Merges IsInOrder id z.0 there z.1 (whole z.0 z.1) V.Spent) (λ i. (sym is i, sym is' i)) (merges_both id (pushed_of v) there (popped_of w))

@@ -101,7 +101,8 @@ module _ (m : Playing) (asked : AskedBatch) (asks : Taking) (more : asks ≡ wit
 
 -- a mark plays no ask
 pub marks_taken : (old new : Playing) (asked : AskedBatch) → MarksIfDue old new → IsTaken old asked → IsTaken new asked
-marks_taken old new asked marks taken = (subst (λ (l : List AskedBatch). Contains l asked) (sym (same marks).0) taken.0, subst (All (λ (e : AskedBatch). IsBefore e asked)) (sym (same marks).1) taken.1)
+marks_taken old new asked marks taken =
+    (subst (λ (l : List AskedBatch). Contains l asked) (sym (same marks).0) taken.0, subst (All (λ (e : AskedBatch). IsBefore e asked)) (sym (same marks).1) taken.1)
   where
     same : MarksIfDue old new → (new.asks.taken ≡ old.asks.taken) × (asks_of new.to.items ≡ asks_of old.to.items)
     same (inl kept) = (ap (λ (m : Playing). m.asks.taken) kept.0, ap (λ (m : Playing). asks_of m.to.items) kept.0)

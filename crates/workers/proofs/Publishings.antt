@@ -36,8 +36,10 @@ done_next tick newest opened newest' done done' covers covers' p newer last s of
     }
 
 -- after a round the ticks of all rounds that are done are published, and no other
-pub published_on : (over : Bool) (tick : ℕ) (newest opened : Option (Slot × ℕ)) (keeper : Progress) (old found new : BackState) (covers covers' : SignalState) → ArePublished newest old.done covers → newest_tick newest < tick
-    → newest ≡ newest_after opened old.done → keeper.newest ≡ newest_after opened new.done → found.done ≡ old.done → found.now.tick ≡ tick → RoundRuns found keeper new → Publishes tick keeper covers covers'
+pub published_on : (over : Bool) (tick : ℕ) (newest opened : Option (Slot × ℕ)) (keeper : Progress) (old found new : BackState)
+    (covers covers' : SignalState) → ArePublished newest old.done covers → newest_tick newest < tick
+    → newest ≡ newest_after opened old.done → keeper.newest ≡ newest_after opened new.done → found.done ≡ old.done
+    → found.now.tick ≡ tick → RoundRuns found keeper new → Publishes tick keeper covers covers'
     → (over ≡ false → keeper.phase ≡ Idle) → (over ≡ true → HasRound keeper) → ArePublished keeper.newest new.done covers'
 published_on false tick newest opened keeper old found new covers covers' p newer was is same at runs publishes rests busy =
     let idle = rests refl in
@@ -64,8 +66,11 @@ module _ {D : Type 0} (file : D → List ℕ) (leaves : D → List ℕ → Type 
       let newer : newest_tick old.images.keeper.newest < number = (let e = is.newer busy in omega (arith, e, tick)) in
       let on : FollowsRounds file leaves honest next.opening next.images next.back = subst (λ (o : ImageWriter D). FollowsRounds file leaves honest o next.images next.back) (sym opening) follows in
       let published : ArePublished keeper.newest next.back.done next.covers = elim (is_idle keeper.phase) [
-        | inl idle ↦ published_on false number old.images.keeper.newest old.opening.keeper.newest keeper old.back found next.back old.covers next.covers is.published newer is.follows.newest follows.newest done at runs publishes (λ _. idle) (λ e. absurd (cc e))
-        | inr work ↦ published_on true number old.images.keeper.newest old.opening.keeper.newest keeper old.back found next.back old.covers next.covers is.published newer is.follows.newest follows.newest done at runs publishes (λ e. absurd (cc e)) (λ _. work)
+        | inl idle ↦ published_on false number old.images.keeper.newest old.opening.keeper.newest keeper old.back found next.back
+            old.covers next.covers is.published newer is.follows.newest follows.newest done at runs publishes (λ _. idle) (λ e. absurd (cc e))
+        | inr work ↦ published_on true number old.images.keeper.newest old.opening.keeper.newest keeper old.back found next.back
+            old.covers next.covers is.published newer is.follows.newest follows.newest done at runs publishes (λ e. absurd (cc e)) (λ _. work)
       ] in
       checkpointer_goes_on file leaves honest next found step (ap (λ (o : ImageWriter D). o.keeper.cells) opening ∙ (is.cells ∙ sym (ap (λ (b : BackState). b.cells) same))) fits on runs published
-      old.images.keeper.newest (is.follows.newest ∙ (ap (λ (o : ImageWriter D). newest_after o.keeper.newest old.back.done) (sym opening) ∙ ap (newest_after next.opening.keeper.newest) (sym done))) (omega (arith, newer, at))
+      old.images.keeper.newest
+      (is.follows.newest ∙ (ap (λ (o : ImageWriter D). newest_after o.keeper.newest old.back.done) (sym opening) ∙ ap (newest_after next.opening.keeper.newest) (sym done))) (omega (arith, newer, at))

@@ -23,7 +23,8 @@ no_receipt answer.Working never = refl
 no_receipt answer.Down never = refl
 
 -- a step of the keeper has a receipt in only one phase
-pub step_receipt : (given : LogAnswer) (p : Phase) (last : ℕ) → ((tick : ℕ) → given ≡ answer.Acked tick → p ≡ phase.GateSync) → (p ≡ phase.GateSync → given ≡ answer.Acked last) → receipt_in given ≡ receipt_at p last
+pub step_receipt : (given : LogAnswer) (p : Phase) (last : ℕ) → ((tick : ℕ) → given ≡ answer.Acked tick → p ≡ phase.GateSync)
+    → (p ≡ phase.GateSync → given ≡ answer.Acked last) → receipt_in given ≡ receipt_at p last
 step_receipt given phase.GateSync last only is = ap receipt_in (is refl)
 step_receipt given phase.Retiring last only is = no_receipt given (λ tick e. let at = only tick e in cc)
 step_receipt given phase.RetiringSync last only is = no_receipt given (λ tick e. let at = only tick e in cc)
@@ -45,9 +46,13 @@ cover_receipt answer.Working p last some = refl
 cover_receipt answer.Down p last some = refl
 
 -- A step of the log with this receipt acknowledges what it posts.
-pub acknowledged : {D : Type 0} (seen w : Logging D) → w ≡ seen → (covers : SignalState) (tick : ℕ) (log : Log D) (ring : Buffer Record) (answers : Answering) (acked : ℕ) → covers ≡ loaded w.covers tick
-    → (receipt : Option ℕ) → receipt ≡ receipt_of w.log.keeper tick w.ring.items log.keeper → Acknowledges receipt w (record w { covers = covers; log = log; ring = ring; answers = answers; acked = acked })
-    → (cover : ℕ) × (covers ≡ loaded seen.covers cover) × Acknowledges (receipt_of seen.log.keeper cover seen.ring.items log.keeper) seen (record w { covers = covers; log = log; ring = ring; answers = answers; acked = acked })
+pub acknowledged : {D : Type 0} (seen w : Logging D) → w ≡ seen → (covers : SignalState) (tick : ℕ) (log : Log D)
+    (ring : Buffer Record) (answers : Answering) (acked : ℕ) → covers ≡ loaded w.covers tick
+    → (receipt : Option ℕ) → receipt ≡ receipt_of w.log.keeper tick w.ring.items log.keeper
+    → Acknowledges receipt w (record w { covers = covers; log = log; ring = ring; answers = answers; acked = acked })
+    → (cover : ℕ) × (covers ≡ loaded seen.covers cover)
+    × Acknowledges (receipt_of seen.log.keeper cover seen.ring.items log.keeper) seen (record w { covers = covers; log = log; ring = ring; answers = answers; acked = acked })
 acknowledged {D} seen w same covers tick log ring answers acked reported receipt is acks =
-    subst (λ (x : Logging D). (cover : ℕ) × (covers ≡ loaded x.covers cover) × Acknowledges (receipt_of x.log.keeper cover x.ring.items log.keeper) x (record w { covers = covers; log = log; ring = ring; answers = answers; acked = acked })) same
+    subst (λ (x : Logging D). (cover : ℕ) × (covers ≡ loaded x.covers cover)
+    × Acknowledges (receipt_of x.log.keeper cover x.ring.items log.keeper) x (record w { covers = covers; log = log; ring = ring; answers = answers; acked = acked })) same
     (tick, reported, subst (λ (r : Option ℕ). Acknowledges r w (record w { covers = covers; log = log; ring = ring; answers = answers; acked = acked })) is acks)

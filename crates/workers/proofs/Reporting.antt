@@ -1,5 +1,6 @@
 -- The content of the log's files continues with each step of its keeper.
-use Rattle.std.proofs.Common.{arith, ◌≡◌, ◌⊎◌, inl, inr, ℕ, ◌+◌, ◌≤◌, Bool, true, false, IsTrue, List, [], ◌∷◌, ◌++◌, length, length-append, append-nil, refl, sym, ap, ◌∙◌, subst, Option, Some, None, IfSome}
+use Rattle.std.proofs.Common.{arith, ◌≡◌, ◌⊎◌, inl, inr, ℕ, ◌+◌, ◌≤◌, Bool, true, false, IsTrue, List, [], ◌∷◌, ◌++◌, length}
+use Rattle.std.proofs.Common.{length-append, append-nil, refl, sym, ap, ◌∙◌, subst, Option, Some, None, IfSome}
 use Rattle.std.specs.Prelude.{Contains}
 use Rattle.std.proofs.lemmas.List.{append_assoc}
 use Rattle.std.proofs.lemmas.List.Elements.{Contains-push}
@@ -118,10 +119,12 @@ goes_on_acked acked logs queue next left fits (inr (inr t)) h = subst (HasAcked 
   switched = λ number is. (let same : t.tick ≡ number = cc in let most = fits t.tick left t.in_front t.idle in omega (arith, h.kept, most, same));
 })
 
-pub step_acked : (acked : ℕ) (logs : Logs) (queue : List Record) (given : LogAnswer) (next : Logs) (left : List Record) → SwitchFits logs queue → LogsStep logs queue given next left → HasAcked acked logs → HasAcked acked next
+pub step_acked : (acked : ℕ) (logs : Logs) (queue : List Record) (given : LogAnswer) (next : Logs) (left : List Record)
+    → SwitchFits logs queue → LogsStep logs queue given next left → HasAcked acked logs → HasAcked acked next
 step_acked acked logs queue answer.Idle next left fits step h = subst (HasAcked acked) (sym step.2) h
 step_acked acked logs queue answer.Working next left fits (inl goes) h = goes_on_acked acked logs queue next left fits goes h
-step_acked acked logs queue answer.Working next left fits (inr e) h = subst (HasAcked acked) (sym e.is) (record { kept = (let most = h.switched e.tick e.in_work in omega (arith, most)); switched = λ number is. absurd (cc) })
+step_acked acked logs queue answer.Working next left fits (inr e) h =
+    subst (HasAcked acked) (sym e.is) (record { kept = (let most = h.switched e.tick e.in_work in omega (arith, most)); switched = λ number is. absurd (cc) })
 step_acked acked logs queue (answer.Acked tick) next left fits a h = subst (HasAcked acked) (sym a.is) (record {
   kept = omega (arith, h.kept, length-append logs.kept logs.pending);
   switched = λ number is. absurd (let none = a.no_switch in cc);
@@ -134,7 +137,8 @@ now_acked tick logs queue next left a = subst (HasAcked tick) (sym a.is) (record
   switched = λ number is. absurd (let none = a.no_switch in cc);
 })
 
-follows_fits : (phase : Phase) (base count next_base number : ℕ) (left : List Record) → IsTrue (is_of_start phase false) → switch_in phase next_base ≡ None → QueueFollowsIn phase base count next_base (records.Switch number ∷ left) → base + count ≤ number
+follows_fits : (phase : Phase) (base count next_base number : ℕ) (left : List Record) → IsTrue (is_of_start phase false)
+    → switch_in phase next_base ≡ None → QueueFollowsIn phase base count next_base (records.Switch number ∷ left) → base + count ≤ number
 follows_fits phases.Retiring base count next_base number left start none f = absurd (cc)
 follows_fits phases.RetiringSync base count next_base number left start none f = absurd (cc)
 follows_fits phases.Ready base count next_base number left start none f = f.0
@@ -148,7 +152,8 @@ follows_fits phases.HeaderSync base count next_base number left start none f = a
 follows_fits phases.Opening base count next_base number left start none f = absurd (cc)
 follows_fits phases.OpeningSync base count next_base number left start none f = absurd (cc)
 
-pub switch_fits : (keeper : Progress) (a b : List ℕ) (leaves_a leaves_b : List ℕ → Type 0) (logs : Logs) (queue : List Record) → StandsAfterStart keeper a b leaves_a leaves_b logs → QueueFollows keeper queue → SwitchFits logs queue
+pub switch_fits : (keeper : Progress) (a b : List ℕ) (leaves_a leaves_b : List ℕ → Type 0) (logs : Logs) (queue : List Record)
+    → StandsAfterStart keeper a b leaves_a leaves_b logs → QueueFollows keeper queue → SwitchFits logs queue
 switch_fits keeper a b leaves_a leaves_b logs queue s follows number left front idle =
     let most = follows_fits keeper.phase keeper.base keeper.count keeper.next_base number left (subst (λ (start : Bool). IsTrue (is_of_start keeper.phase start)) s.over s.holds.in_order.of_start)
     (sym (ap (λ (l : Logs). l.switch) s.is) ∙ idle.1) (subst (QueueFollows keeper) front follows) in
@@ -161,7 +166,8 @@ abbrev Acknowledged : List ℕ → ℕ → Logs → Type 0
 Acknowledged covers acked logs = HasAcked acked logs ⊎ IsCovered covers acked
 
 -- the records that a cover takes were in front, so they may be left out
-cover_takes : (covers : List ℕ) (tick : ℕ) (all given lost : List Record) (logs : Logs) (queue left : List Record) (taken : List Record) → Covers logs queue tick taken left → LeavesOut covers all (given ++ (queue ++ lost)) → Contains covers tick
+cover_takes : (covers : List ℕ) (tick : ℕ) (all given lost : List Record) (logs : Logs) (queue left : List Record)
+    (taken : List Record) → Covers logs queue tick taken left → LeavesOut covers all (given ++ (queue ++ lost)) → Contains covers tick
     → LeavesOut covers all (given ++ (left ++ lost))
 cover_takes covers tick all given lost logs queue left taken c order at =
     let front : queue ≡ taken ++ records.Switch tick ∷ c.behind = c.in_front ∙ ap (λ (l : List Record). taken ++ l) c.next in
@@ -188,7 +194,8 @@ work_append : (switch : Option ℕ) (queue more : List Record) → with_work swi
 work_append None queue more = refl
 work_append (Some tick) queue more = refl
 
-step_order : (covers : List ℕ) (all given taken queue left lost : List Record) → queue ≡ taken ++ left → LeavesOut covers all (given ++ (queue ++ lost)) → LeavesOut covers all ((given ++ taken) ++ (left ++ lost))
+step_order : (covers : List ℕ) (all given taken queue left lost : List Record) → queue ≡ taken ++ left
+    → LeavesOut covers all (given ++ (queue ++ lost)) → LeavesOut covers all ((given ++ taken) ++ (left ++ lost))
 step_order covers all given taken queue left lost front order =
     let same : given ++ (queue ++ lost) ≡ (given ++ taken) ++ (left ++ lost) =
     ap (λ (l : List Record). given ++ l) (ap (λ (l : List Record). l ++ lost) front ∙ append_assoc taken left lost) ∙ sym (append_assoc given taken (left ++ lost)) in
@@ -203,7 +210,8 @@ module _ {D : Type 0} (file : D → List ℕ) (leaves : D → List ℕ → Type 
 
   stepped_acked : (log : Log D) (logs next : Logs) (ring left : List Record) (given : LogAnswer) (covers : List ℕ) (acked acked' : ℕ) → QueueFollows log.keeper ring → LogStands file leaves log logs
       → (acked' ≡ acked) ⊎ (given ≡ answer.Acked acked') → LogsStep logs ring given next left → Acknowledged covers acked logs → Acknowledged covers acked' next
-  stepped_acked log logs next ring left given covers acked acked' follows stands (inr now) step was = inl (now_acked acked' logs ring next left (subst (λ (g : LogAnswer). LogsStep logs ring g next left) now step))
+  stepped_acked log logs next ring left given covers acked acked' follows stands (inr now) step was =
+      inl (now_acked acked' logs ring next left (subst (λ (g : LogAnswer). LogsStep logs ring g next left) now step))
   stepped_acked log logs next ring left given covers acked acked' follows stands (inl same) step (inl has) =
       let fits = switch_fits log.keeper (file log.a) (file log.b) (leaves log.a) (leaves log.b) logs ring stands.0 follows in
       inl (subst (λ k. HasAcked k next) (sym same) (step_acked acked logs ring given next left fits step has))
@@ -211,23 +219,38 @@ module _ {D : Type 0} (file : D → List ℕ) (leaves : D → List ℕ → Type 
 
   covered_acked : (tick : ℕ) (logs next : Logs) (ring left : List Record) (given : LogAnswer) (covers : List ℕ) (acked acked' : ℕ) → Contains covers tick → next ≡ logs
       → (acked' ≡ acked) ⊎ (given ≡ answer.Acked acked') → CoverStep logs ring tick given left → Acknowledged covers acked logs → Acknowledged covers acked' next
-  covered_acked tick logs next ring left given covers acked acked' at stays (inl same) step was = subst (λ (l : Logs). Acknowledged covers acked' l) (sym stays) (subst (λ k. Acknowledged covers k logs) (sym same) was)
+  covered_acked tick logs next ring left given covers acked acked' at stays (inl same) step was =
+      subst (λ (l : Logs). Acknowledged covers acked' l) (sym stays) (subst (λ k. Acknowledged covers k logs) (sym same) was)
   covered_acked tick logs next ring left given covers acked acked' at stays (inr now) step was =
       let c = subst (λ (g : LogAnswer). CoverStep logs ring tick g left) now step in
       inr (tick, at, omega (arith, c.3))
 
   -- the written records with other loaded ticks, and another acknowledged tick
-  abbrev written_as : {log : Log D} {ring : List Record} {covers reported : List ℕ} {acked tick : ℕ} {down : Bool} {first : LogContent} {all : List Record} (w : Writes file leaves log ring covers acked down first all)
+  abbrev written_as : {log : Log D} {ring : List Record} {covers reported : List ℕ} {acked tick : ℕ} {down : Bool}
+      {first : LogContent} {all : List Record} (w : Writes file leaves log ring covers acked down first all)
       → LeavesOut reported all (w.given ++ (with_work w.logs.switch ring ++ w.lost)) → Acknowledged reported tick w.logs → Writes file leaves log ring reported tick down first all
-  written_as w order acknowledged = record { logs = w.logs; stands = w.stands; given = w.given; lost = w.lost; reported = w.reported; order = order; one_job = w.one_job; none_lost = w.none_lost; acknowledged = acknowledged }
+  written_as w order acknowledged = record {
+    logs = w.logs;
+    stands = w.stands;
+    given = w.given;
+    lost = w.lost;
+    reported = w.reported;
+    order = order;
+    one_job = w.one_job;
+    none_lost = w.none_lost;
+    acknowledged = acknowledged;
+  }
 
   -- more ticks of open images are loaded
-  abbrev written_later : (log : Log D) (ring : List Record) (covers later : List ℕ) (acked : ℕ) (down : Bool) (first : LogContent) (all : List Record) → Writes file leaves log ring covers acked down first all → Writes file leaves log ring (covers ++ later) acked down first all
+  abbrev written_later : (log : Log D) (ring : List Record) (covers later : List ℕ) (acked : ℕ) (down : Bool) (first : LogContent)
+      (all : List Record) → Writes file leaves log ring covers acked down first all → Writes file leaves log ring (covers ++ later) acked down first all
   written_later log ring covers later acked down first all w = written_as w (leaves_later covers later all (w.given ++ (with_work w.logs.switch ring ++ w.lost)) w.order)
       (elim w.acknowledged [ inl has ↦ inl has | inr is ↦ inr (covered_later covers later acked is) ])
 
-  advanced : (log after : Log D) (ring left : List Record) (tick : ℕ) (covers : List ℕ) (given : LogAnswer) (acked acked' : ℕ) (down : Bool) (first : LogContent) (all : List Record) → QueueFollows log.keeper ring → Contains covers tick
-      → (acked' ≡ acked) ⊎ (given ≡ answer.Acked acked') → (w : Writes file leaves log ring covers acked down first all) → (next : Logs) → LogStands file leaves after next → Advances tick w.logs ring given next left
+  advanced : (log after : Log D) (ring left : List Record) (tick : ℕ) (covers : List ℕ) (given : LogAnswer) (acked acked' : ℕ)
+      (down : Bool) (first : LogContent) (all : List Record) → QueueFollows log.keeper ring → Contains covers tick
+      → (acked' ≡ acked) ⊎ (given ≡ answer.Acked acked') → (w : Writes file leaves log ring covers acked down first all)
+      → (next : Logs) → LogStands file leaves after next → Advances tick w.logs ring given next left
       → Writes file leaves after left covers acked' down first all
   advanced log after ring left tick covers given acked acked' down first all follows at which w next stands (inl step) =
       let taken = step_reported w.logs ring given next left step w.one_job in
@@ -248,13 +271,16 @@ module _ {D : Type 0} (file : D → List ℕ) (leaves : D → List ℕ → Type 
     given = w.given;
     lost = w.lost;
     reported = ap content_in cover.0 ∙ w.reported;
-    order = subst (λ (l : Logs). LeavesOut covers all (w.given ++ (with_work l.switch left ++ w.lost))) (sym cover.0) (cover_order covers tick all w.given w.lost w.logs ring left given cover.1 w.order at);
+    order =
+        subst (λ (l : Logs). LeavesOut covers all (w.given ++ (with_work l.switch left ++ w.lost))) (sym cover.0)
+        (cover_order covers tick all w.given w.lost w.logs ring left given cover.1 w.order at);
     one_job = subst HasOneJob (sym cover.0) w.one_job;
     none_lost = w.none_lost;
     acknowledged = covered_acked tick w.logs next ring left given covers acked acked' at cover.0 which cover.1 w.acknowledged;
   }
 
-  pub writes_on : (log after : Log D) (ring left : List Record) (tick : ℕ) (covers : List ℕ) (given : LogAnswer) (acked acked' : ℕ) (down : Bool) (first : LogContent) (all : List Record) → QueueFollows log.keeper ring
+  pub writes_on : (log after : Log D) (ring left : List Record) (tick : ℕ) (covers : List ℕ) (given : LogAnswer)
+      (acked acked' : ℕ) (down : Bool) (first : LogContent) (all : List Record) → QueueFollows log.keeper ring
       → (acked' ≡ acked) ⊎ (given ≡ answer.Acked acked') → LogAdvances tick log after ring left given
       → Writes file leaves log ring covers acked down first all → Writes file leaves after left (covers ++ tick ∷ []) acked' down first all
   writes_on log after ring left tick covers given acked acked' down first all follows which advances w =
@@ -263,14 +289,16 @@ module _ {D : Type 0} (file : D → List ℕ) (leaves : D → List ℕ → Type 
       advanced log after ring left tick (covers ++ tick ∷ []) given acked acked' down first all follows (Contains-push covers tick) which reported on.0 on.1 on.2
 
   -- if the ticks up to one are acknowledged, so are those up to an earlier one
-  pub writes_below : (log : Log D) (ring : List Record) (covers : List ℕ) (acked fewer : ℕ) (down : Bool) (first : LogContent) (all : List Record) → fewer ≤ acked → Writes file leaves log ring covers acked down first all → Writes file leaves log ring covers fewer down first all
+  pub writes_below : (log : Log D) (ring : List Record) (covers : List ℕ) (acked fewer : ℕ) (down : Bool) (first : LogContent)
+      (all : List Record) → fewer ≤ acked → Writes file leaves log ring covers acked down first all → Writes file leaves log ring covers fewer down first all
   writes_below log ring covers acked fewer down first all few w = written_as w w.order (elim w.acknowledged [
     | inl logged ↦ inl (record { kept = omega (arith, few, logged.kept); switched = λ number is. let later = logged.switched number is in omega (arith, few, later) })
     | inr covered ↦ inr (covered.0, covered.1, omega (arith, few, covered.2))
   ])
 
   -- one more record is queued
-  pub writes_more : (log : Log D) (ring more : List Record) (covers : List ℕ) (acked : ℕ) (down : Bool) (first : LogContent) (all : List Record) → down ≡ false → Writes file leaves log ring covers acked down first all → Writes file leaves log (ring ++ more) covers acked down first (all ++ more)
+  pub writes_more : (log : Log D) (ring more : List Record) (covers : List ℕ) (acked : ℕ) (down : Bool) (first : LogContent)
+      (all : List Record) → down ≡ false → Writes file leaves log ring covers acked down first all → Writes file leaves log (ring ++ more) covers acked down first (all ++ more)
   writes_more log ring more covers acked down first all up w = record {
     logs = w.logs;
     stands = w.stands;
@@ -289,7 +317,8 @@ module _ {D : Type 0} (file : D → List ℕ) (leaves : D → List ℕ → Type 
   }
 
   -- one more record is lost
-  pub writes_lost : (log : Log D) (ring more : List Record) (covers : List ℕ) (acked : ℕ) (down : Bool) (first : LogContent) (all : List Record) → down ≡ true → Writes file leaves log ring covers acked down first all → Writes file leaves log ring covers acked down first (all ++ more)
+  pub writes_lost : (log : Log D) (ring more : List Record) (covers : List ℕ) (acked : ℕ) (down : Bool) (first : LogContent)
+      (all : List Record) → down ≡ true → Writes file leaves log ring covers acked down first all → Writes file leaves log ring covers acked down first (all ++ more)
   writes_lost log ring more covers acked down first all is_down w = record {
     logs = w.logs;
     stands = w.stands;

@@ -79,7 +79,8 @@ module _ {D G : Type 0} (reported : G → Place → Pass → G → Type 0) where
   all_same old new (inl same) = inl (ap (λ (w : ImageWriter D). w.image_a) same, ap (λ (w : ImageWriter D). w.image_b) same)
   all_same old new (inr let_go) = inr let_go
 
-  pub files_ask : (phase : Phase) (old new : ImageWriter D) → (new ≡ old) ⊎ MayGo reported (place_of phase) → (phase ≡ Taking → (new.image_a ≡ old.image_a) × (new.image_b ≡ old.image_b)) → FilesAsk old new
+  pub files_ask : (phase : Phase) (old new : ImageWriter D) → (new ≡ old) ⊎ MayGo reported (place_of phase)
+      → (phase ≡ Taking → (new.image_a ≡ old.image_a) × (new.image_b ≡ old.image_b)) → FilesAsk old new
   files_ask Idle old new asks takes = all_same old new asks
   files_ask Closing old new asks takes = all_same old new asks
   files_ask ClosingSync old new asks takes = all_same old new asks

@@ -13,7 +13,9 @@ use Rattle.workers.specs.Channel.{IsBegun, IsSender, IsReceiver}
 use Rattle.workers.proofs.Numbers.{begun_pushed, begun_popped, numbered_pushed, numbered_popped, sent, received, last_goes}
 
 module _ {A E : Type 0} (end : SendEnd) (pass pass' : Pass Item View) (x : Item) (M : E → Type 0) where
-  pub sender_after : (r : Result A E) → MatchResult r (λ _. pushed (view pass) x (view pass')) (λ e. M e × (view pass' ≡ view pass)) → IsSeatAt (sends_on end.end) pass' → IsSender end pass → Goes (items_end (pushed_of (view pass))) x → IsSender end pass'
+  pub sender_after : (r : Result A E)
+      → MatchResult r (λ _. pushed (view pass) x (view pass')) (λ e. M e × (view pass' ≡ view pass))
+      → IsSeatAt (sends_on end.end) pass' → IsSender end pass → Goes (items_end (pushed_of (view pass))) x → IsSender end pass'
   sender_after (Ok a) rule at s goes = record {
     at = at;
     pushes = sent (view pass) (view pass') x rule;
@@ -28,7 +30,8 @@ module _ {A E : Type 0} (end : SendEnd) (pass pass' : Pass Item View) (x : Item)
   }
 
 module _ {E : Type 0} (end : ReceiveEnd) (pass pass' : Pass Item View) (M : Type 0) where
-  pub receiver_after : (r : Result Item E) → MatchResult r (λ x. popped (view pass) x (view pass')) (λ _. (view pass' ≡ view pass) × M) → IsSeatAt (receives_on end.end) pass' → IsReceiver end pass → IsReceiver end pass'
+  pub receiver_after : (r : Result Item E)
+      → MatchResult r (λ x. popped (view pass) x (view pass')) (λ _. (view pass' ≡ view pass) × M) → IsSeatAt (receives_on end.end) pass' → IsReceiver end pass → IsReceiver end pass'
   receiver_after (Ok x) rule at s = record {
     at = at;
     pops = received (view pass) (view pass') x rule.0;
@@ -42,6 +45,7 @@ module _ {E : Type 0} (end : ReceiveEnd) (pass pass' : Pass Item View) (M : Type
     numbered = subst (λ (u : View). AreNumbered (popped_of u)) (sym rule.0) s.numbered;
   }
 
-  pub received_goes : (r : Result Item E) → MatchResult r (λ x. popped (view pass) x (view pass')) (λ _. (view pass' ≡ view pass) × M) → IsReceiver end pass → IfOk r (λ x. Goes (items_end (popped_of (view pass))) x)
+  pub received_goes : (r : Result Item E)
+      → MatchResult r (λ x. popped (view pass) x (view pass')) (λ _. (view pass' ≡ view pass) × M) → IsReceiver end pass → IfOk r (λ x. Goes (items_end (popped_of (view pass))) x)
   received_goes (Ok x) rule s = last_goes (popped_of (view pass)) x s.begun rule.1
   received_goes (Err e) rule s = tt

@@ -11,7 +11,8 @@ use Rattle.workers.specs.Worlds.{RanBatch, world_of}
 use Rattle.workers.specs.Mutating.{Playing, Runs, OwesTick}
 
 -- a run of these requests is a run of the batch that has them
-pub runs_of : (m : Playing) (ended : Ended) (front : FrontState) (asked : AskedBatch) (requests : List Request) → requests ≡ asked.requests → ended.answer.number ≡ m.ended + 1 → ended.answer.asked ≡ asked
+pub runs_of : (m : Playing) (ended : Ended) (front : FrontState) (asked : AskedBatch) (requests : List Request)
+    → requests ≡ asked.requests → ended.answer.number ≡ m.ended + 1 → ended.answer.asked ≡ asked
     → front.pair ≡ m.front.pair → RanBatch requests (world_of m.front) ended (world_of front) → KeepsUntouched m.front front → Runs m asked ended front
 runs_of m ended front asked requests same number answers pair ran untouched = record {
   number = number;

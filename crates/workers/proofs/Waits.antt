@@ -12,7 +12,8 @@ next_more number (first ∷ waiting) last next is = (next.0, next_more (number +
 -- if the first tick is later than the receipt, all are
 pub all_later : (receipt number : ℕ) (waiting : List Unposted) → AreNext number waiting → receipt ≤ number → All (λ (w : Unposted). receipt < w.number) waiting
 all_later receipt number [] next later = All-nil (λ (w : Unposted). receipt < w.number)
-all_later receipt number (first ∷ waiting) next later = All-cons (λ (w : Unposted). receipt < w.number) first waiting (omega (arith, next.0, later)) (all_later receipt (number + 1) waiting next.1 (omega (arith, later)))
+all_later receipt number (first ∷ waiting) next later =
+    All-cons (λ (w : Unposted). receipt < w.number) first waiting (omega (arith, next.0, later)) (all_later receipt (number + 1) waiting next.1 (omega (arith, later)))
 
 pub first_is : (waiting : List Unposted) (first : Unposted) → Some first ≡ slice_get waiting 0 → (rest : List Unposted) × (waiting ≡ first ∷ rest)
 first_is [] first is = absurd (cc)
@@ -29,7 +30,8 @@ pub none_later : (receipt : ℕ) (waiting : List Unposted) → None ≡ slice_ge
 none_later receipt [] is = All-nil (λ (w : Unposted). receipt < w.number)
 none_later receipt (first ∷ rest) is = absurd (cc)
 
-pub rest_next : (number : ℕ) (waiting : List Unposted) (first : Unposted) (rest : List Unposted) → AreNext number waiting → waiting ≡ first ∷ rest → (first.number ≡ number + 1) × AreNext first.number rest
+pub rest_next : (number : ℕ) (waiting : List Unposted) (first : Unposted) (rest : List Unposted) → AreNext number waiting
+    → waiting ≡ first ∷ rest → (first.number ≡ number + 1) × AreNext first.number rest
 rest_next number waiting first rest next is =
     let known : AreNext number (first ∷ rest) = subst (AreNext number) is next in
     (known.0, subst (λ n. AreNext n rest) (sym known.0) known.1)
@@ -45,7 +47,8 @@ posts_none receipt old = record {
   most = λ number few least. few;
 }
 
-pub posts_more : (receipt : ℕ) (old mid : Answering) (first : Unposted) (rest : List Unposted) → Posts receipt old mid → mid.waiting ≡ first ∷ rest → first.number ≤ receipt → first.number ≡ mid.answered + 1
+pub posts_more : (receipt : ℕ) (old mid : Answering) (first : Unposted) (rest : List Unposted) → Posts receipt old mid
+    → mid.waiting ≡ first ∷ rest → first.number ≤ receipt → first.number ≡ mid.answered + 1
     → Posts receipt old (record mid { waiting = rest; answered = first.number; posted = first.number })
 posts_more receipt old mid first rest p is durable next = record {
   done = p.done ++ first ∷ [];

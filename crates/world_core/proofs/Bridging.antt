@@ -93,8 +93,10 @@ MayCall rests armed_a stepped_a armed_b stepped_b = (rests × (stepped_a ≡ arm
 pub fails_by : (fate : Fate) (is_down rests : Type 0) (a armed_a stepped_a new_a b armed_b stepped_b new_b : File) → IsMoved fate a armed_a stepped_a new_a → IsMoved fate b armed_b stepped_b new_b
     → MayCall rests armed_a stepped_a armed_b stepped_b → is_down ⊎ ((failures stepped_a ≡ failures armed_a) × (failures stepped_b ≡ failures armed_b)) → FailsBy fate is_down rests a b new_a new_b
 fails_by fate_.Done is_down rest a aa sa na b ab sb nb ma mb (inl (at_rest, none, same)) counts = (same_faults fate_.Done a aa sa na ma none, same_faults fate_.Done b ab sb nb mb same)
-fails_by fate_.Done is_down rest a aa sa na b ab sb nb ma mb (inr (inl (call, same))) counts = (own_faults fate_.Done a aa sa na ma (not_due a aa ma.armed_is) call, same_faults fate_.Done b ab sb nb mb same)
-fails_by fate_.Done is_down rest a aa sa na b ab sb nb ma mb (inr (inr (same, call))) counts = (same_faults fate_.Done a aa sa na ma same, own_faults fate_.Done b ab sb nb mb (not_due b ab mb.armed_is) call)
+fails_by fate_.Done is_down rest a aa sa na b ab sb nb ma mb (inr (inl (call, same))) counts =
+    (own_faults fate_.Done a aa sa na ma (not_due a aa ma.armed_is) call, same_faults fate_.Done b ab sb nb mb same)
+fails_by fate_.Done is_down rest a aa sa na b ab sb nb ma mb (inr (inr (same, call))) counts =
+    (same_faults fate_.Done a aa sa na ma same, own_faults fate_.Done b ab sb nb mb (not_due b ab mb.armed_is) call)
 fails_by fate_.Failed is_down rest a aa sa na b ab sb nb ma mb calls (inl down) = λ few_a few_b. inl down
 fails_by fate_.Failed is_down rest a aa sa na b ab sb nb ma mb (inl (at_rest, none, same)) (inr counts) = λ few_a few_b. inr at_rest
 fails_by fate_.Failed is_down rest a aa sa na b ab sb nb ma mb (inr (inl (call, same))) (inr counts) = λ few_a few_b.
@@ -104,9 +106,11 @@ fails_by fate_.Failed is_down rest a aa sa na b ab sb nb ma mb (inr (inr (same, 
 
 -- the call that is due to fail also fails for the file before the move and after it
 fails_on : (fate : Fate) (call : Call) (file armed stepped new : File) → IsMoved fate file armed stepped new → Fails Calls armed call stepped → Fails Calls file call new
-fails_on fate (Write at bytes) file armed stepped new m h = subst (λ (f : File). Fails Calls f (Write at bytes) new) m.armed_is (subst (λ (f : File). Fails Calls armed (Write at bytes) f) (sym m.new_is) h)
+fails_on fate (Write at bytes) file armed stepped new m h =
+    subst (λ (f : File). Fails Calls f (Write at bytes) new) m.armed_is (subst (λ (f : File). Fails Calls armed (Write at bytes) f) (sym m.new_is) h)
 fails_on fate Length file armed stepped new m h = subst (λ (f : File). Fails Calls f Length new) m.armed_is (subst (λ (f : File). Fails Calls armed Length f) (sym m.new_is) h)
-fails_on fate (Read at count) file armed stepped new m h = subst (λ (f : File). Fails Calls f (Read at count) new) m.armed_is (subst (λ (f : File). Fails Calls armed (Read at count) f) (sym m.new_is) h)
+fails_on fate (Read at count) file armed stepped new m h =
+    subst (λ (f : File). Fails Calls f (Read at count) new) m.armed_is (subst (λ (f : File). Fails Calls armed (Read at count) f) (sym m.new_is) h)
 fails_on fate Sync file armed stepped new m h = subst (λ (f : File). Fails Calls f Sync new) m.armed_is (subst (λ (f : File). Fails Calls armed Sync f) (sym m.new_is) h)
 
 -- one call of an armed file is one call by its fate
@@ -233,7 +237,8 @@ when_opened image_answer.Down P Q h = tt
 -- a step of the keeper between two armed files
 pub record StepsArmedImages (was : State) (armed_a armed_b : File) (given : ImageAnswer) (stepped_a stepped_b : File) (new : State) : Type 0 where
   pub rest : new ≡ record was { content = new.content; images = new.images; image_a = new.image_a; image_b = new.image_b }
-  pub stands : (images : ImageFiles) → ImagesIn was.images images armed_a.inner armed_b.inner → (next : ImageFiles) × ImagesIn new.images next stepped_a.inner stepped_b.inner × StepsImages Takes was.images.cells images given next was.content new.content
+  pub stands : (images : ImageFiles) → ImagesIn was.images images armed_a.inner armed_b.inner
+      → (next : ImageFiles) × ImagesIn new.images next stepped_a.inner stepped_b.inner × StepsImages Takes was.images.cells images given next was.content new.content
   pub cells : new.images.cells ≡ was.images.cells
   pub idle : (given ≡ image_answer.Idle) ↔ (was.images.phase ≡ Idle)
   pub down : (given ≡ image_answer.Down) ↔ (new.images.phase ≡ Down)
@@ -272,14 +277,16 @@ image_step_at fate was old new given aa ab sa sb e ma mb s =
 
 -- ---- the log keeper
 
-log_counts : (given : LogAnswer) (down : Bool) (a new_a b new_b : ℕ) → (given ≡ log_answer.Down) ↔ (down ≡ true) → (down ≡ false → (new_a ≡ a) × (new_b ≡ b)) → (given ≡ log_answer.Down) ⊎ ((new_a ≡ a) × (new_b ≡ b))
+log_counts : (given : LogAnswer) (down : Bool) (a new_a b new_b : ℕ) → (given ≡ log_answer.Down) ↔ (down ≡ true)
+    → (down ≡ false → (new_a ≡ a) × (new_b ≡ b)) → (given ≡ log_answer.Down) ⊎ ((new_a ≡ a) × (new_b ≡ b))
 log_counts given true a na b nb is same = inl (is.1 refl)
 log_counts given false a na b nb is same = inr (same refl)
 
 pub record StepsArmedLog (was : State) (armed_a armed_b : File) (given : LogAnswer) (stepped_a stepped_b : File) (new : State) : Type 0 where
   pub rest : new ≡ record was { queue = new.queue; log = new.log; log_a = new.log_a; log_b = new.log_b }
   pub front : was.queue ≡ taken was.log was.queue ++ new.queue
-  pub stands : (place : LogPlace) → LogIn was.log place armed_a.inner armed_b.inner → (next : LogPlace) × LogIn new.log next stepped_a.inner stepped_b.inner × JournalStep place was.queue given next new.queue
+  pub stands : (place : LogPlace) → LogIn was.log place armed_a.inner armed_b.inner
+      → (next : LogPlace) × LogIn new.log next stepped_a.inner stepped_b.inner × JournalStep place was.queue given next new.queue
   pub follows : QueueFollows new.log new.queue
   pub end : end_of new.log new.queue ≡ end_of was.log was.queue
   pub idle : (given ≡ log_answer.Idle) ↔ ((was.log.down ≡ false) × (was.log.phase ≡ Ready) × (was.queue ≡ []))
@@ -312,7 +319,8 @@ log_exchanged phase queue one one' other other' (inl none) = inl none
 log_exchanged phase queue one one' other other' (inr (inl (call, same))) = inr (inr (same, call))
 log_exchanged phase queue one one' other other' (inr (inr (same, call))) = inr (inl (call, same))
 
-by_log_slot : (phase : LogPhase) (queue : List Record) (slot : Slot) (a a' b b' : File) → LogCallsIn called (of_slot slot a b) (of_slot slot a' b') (of_slot slot b a) (of_slot slot b' a') phase queue → IsLogCalled phase queue a a' b b'
+by_log_slot : (phase : LogPhase) (queue : List Record) (slot : Slot) (a a' b b' : File)
+    → LogCallsIn called (of_slot slot a b) (of_slot slot a' b') (of_slot slot b a) (of_slot slot b' a') phase queue → IsLogCalled phase queue a a' b b'
 by_log_slot phase queue A a a' b b' c = by_log_phase phase queue a a' b b' c
 by_log_slot phase queue B a a' b b' c = log_exchanged phase queue b b' a a' (by_log_phase phase queue b b' a a' c)
 
@@ -337,7 +345,8 @@ is_idle_or_down given was new down rests (inl e) = inl e
 is_idle_or_down given was new down rests (inr (inl e)) = inr e
 is_idle_or_down given was new down rests (inr (inr e)) = inl (down.1 (ap (λ (k : LogProgress). k.down) (rests (inr e)) ∙ e))
 
-log_fails : (fate : Fate) (given : LogAnswer) (was new : LogProgress) (a b new_a new_b : File) → (given ≡ log_answer.Down) ↔ (new.down ≡ true) → ((given ≡ log_answer.Idle) ⊎ (was.down ≡ true) → new ≡ was)
+log_fails : (fate : Fate) (given : LogAnswer) (was new : LogProgress) (a b new_a new_b : File) → (given ≡ log_answer.Down)
+    ↔ (new.down ≡ true) → ((given ≡ log_answer.Idle) ⊎ (was.down ≡ true) → new ≡ was)
     → FailsBy fate (given ≡ log_answer.Down) ((given ≡ log_answer.Idle) ⊎ (was.down ≡ true)) a b new_a new_b → FailsBy fate (given ≡ log_answer.Down) (given ≡ log_answer.Idle) a b new_a new_b
 log_fails fate_.Done given was new a b na nb down rests f = f
 log_fails fate_.Failed given was new a b na nb down rests f = λ few_a few_b. is_idle_or_down given was new down rests (f few_a few_b)

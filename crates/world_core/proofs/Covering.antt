@@ -1,5 +1,6 @@
 -- A cover keeps the invariant of a core, and its answer is exact.
-use Rattle.std.proofs.Common.{◌≡◌, ℕ, ◌+◌, ◌≤◌, inl, inr, Bool, true, false, nat_lt, if◌then◌else◌, List, [], ◌∷◌, ◌++◌, length, map, Option, Some, None, refl, sym, ap, subst, ◌∙◌, arith, append_assoc, lt-ltb, replicate}
+use Rattle.std.proofs.Common.{◌≡◌, ℕ, ◌+◌, ◌≤◌, inl, inr, Bool, true, false, nat_lt, if◌then◌else◌, List, [], ◌∷◌, ◌++◌, length}
+use Rattle.std.proofs.Common.{map, Option, Some, None, refl, sym, ap, subst, ◌∙◌, arith, append_assoc, lt-ltb, replicate}
 use Rattle.std.proofs.lemmas.List.{map-append}
 use Rattle.std.proofs.lemmas.Bool.{cases_lt}
 use Rattle.world_actions.specs.declared.action.Action.{Action}
@@ -35,7 +36,8 @@ record MayCover (starting down : Bool) (newest tick : ℕ) : Type 0 where
   is_up : down ≡ false
   opened : tick ≤ newest
 
-may_cover_by : (starting down below : Bool) (newest tick : ℕ) → below ≡ nat_lt newest tick → None ≡ (if starting then Some Starting else (if down then Some LogDown else (if below then Some Uncovered else None))) → MayCover starting down newest tick
+may_cover_by : (starting down below : Bool) (newest tick : ℕ) → below ≡ nat_lt newest tick
+    → None ≡ (if starting then Some Starting else (if down then Some LogDown else (if below then Some Uncovered else None))) → MayCover starting down newest tick
 may_cover_by true down below newest tick is e = absurd (let g = e in cc)
 may_cover_by false true below newest tick is e = absurd (let g = e in cc)
 may_cover_by false false true newest tick is e = absurd (let g = e in cc)
@@ -69,7 +71,8 @@ record IsCovered (first : List ℕ) (ticks : List (List Action)) (acknowledged :
   in_step : InStep first ticks acknowledged state.content images journal left
   receipt : (number : ℕ) → given ≡ given_.Acked number → number + length (ticks_in left) ≡ length ticks
 
-receipt_of : (ticks : List (List Action)) (given : LogAnswer) (left : List Record) (number : ℕ) → given ≡ given_.Acked number → ReceiptIs given ticks left → number + length (ticks_in left) ≡ length ticks
+receipt_of : (ticks : List (List Action)) (given : LogAnswer) (left : List Record) (number : ℕ) → given ≡ given_.Acked number
+    → ReceiptIs given ticks left → number + length (ticks_in left) ≡ length ticks
 receipt_of ticks given left number is r = (let same : ReceiptIs (given_.Acked number) ticks left = subst (λ (g : LogAnswer). ReceiptIs g ticks left) is r in same)
 
 covers_in : EventLaws → KeeperLaws → (past : Past) (old : State) (tick : ℕ) (given : LogAnswer) (left : List Record) (images : ImageFiles) (journal : Journal) (waits : ℕ)
@@ -84,14 +87,17 @@ covers_in laws keepers past old tick given left (Newest images) (Writing logs) w
     let kept = laws.goes_on.cover (replicate old.cells 0) past.history.ticks past.acknowledged old.content images logs old.queue tick given left opened s w in
     record {
       in_step = subst (λ a. InStep (replicate old.cells 0) past.history.ticks a old.content (Newest images) (Writing logs) left) (sym (counts past.acknowledged given)) kept;
-      receipt = λ number is. receipt_of past.history.ticks given left number is (laws.keeps.cover_receipt (replicate old.cells 0) past.history.ticks past.acknowledged images logs old.queue tick given left w.phase s);
+      receipt =
+          λ number is.
+          receipt_of past.history.ticks given left number is (laws.keeps.cover_receipt (replicate old.cells 0) past.history.ticks past.acknowledged images logs old.queue tick given left w.phase s);
     }
 
 covered_from : EventLaws → KeeperLaws → (past : Past) (old new : State) (tick : ℕ) (given : LogAnswer) (c : IsCoreAt past old) → None ≡ refusal_in old tick → CoversBy tick old given new
     → IsCovered (replicate old.cells 0) past.history.ticks (past_after past (move.Cover tick) (answer.Log given)).acknowledged old c.images c.place.journal given new.queue
 covered_from laws keepers past old new tick given c e d =
     let may = may_cover old tick e in
-    covers_in laws keepers past old tick given new.queue c.images c.place.journal c.place.left c.has_log may.has_started (subst (λ n. tick ≤ n) (newest_is keepers past old c) may.opened) d.step c.in_step
+    covers_in laws keepers past old tick given new.queue c.images c.place.journal c.place.left c.has_log may.has_started
+    (subst (λ n. tick ≤ n) (newest_is keepers past old c) may.opened) d.step c.in_step
 
 pub cover_keeps : EventLaws → KeeperLaws → (past : Past) (old new : State) (tick : ℕ) (given : LogAnswer) → IsCoreAt past old → None ≡ refusal_in old tick → CoversBy tick old given new
     → IsCoreAt (past_after past (move.Cover tick) (answer.Log given)) new
@@ -108,7 +114,9 @@ cover_keeps laws keepers past old new tick given c e d =
         queue_follows = d.follows;
         queue_end = d.end ∙ k.queue_end;
         taken = k.taken ++ map queued_of taken;
-        records = k.records ∙ ap (λ q. k.taken ++ map queued_of q) d.front ∙ ap (λ l. k.taken ++ l) (map-append queued_of taken new.queue) ∙ sym (append_assoc k.taken (map queued_of taken) (map queued_of new.queue));
+        records =
+            k.records ∙ ap (λ q. k.taken ++ map queued_of q) d.front ∙ ap (λ l. k.taken ++ l)
+            (map-append queued_of taken new.queue) ∙ sym (append_assoc k.taken (map queued_of taken) (map queued_of new.queue));
       };
       images = c.images;
       place = c.place;
@@ -126,7 +134,8 @@ cover_keeps laws keepers past old new tick given c e d =
 acked_by : (down has : Bool) (tick number : ℕ) (taken : List Record) → has_tick taken ≡ has → (if down then given_.Down else answer_of tick taken) ≡ given_.Acked number → number ≡ tick
 acked_by true has tick number taken is e = absurd (let g = e in cc)
 acked_by false has tick number [] is e = absurd (let g = e in cc)
-acked_by false true tick number (first ∷ taken) is e = (let g : given_.Acked tick ≡ given_.Acked number = sym (ap (λ b. if b then given_.Acked tick else given_.Working) is) ∙ e in (let h : tick ≡ number = cc in sym h))
+acked_by false true tick number (first ∷ taken) is e =
+    (let g : given_.Acked tick ≡ given_.Acked number = sym (ap (λ b. if b then given_.Acked tick else given_.Working) is) ∙ e in (let h : tick ≡ number = cc in sym h))
 acked_by false false tick number (first ∷ taken) is e = absurd (let g : given_.Working ≡ given_.Acked number = sym (ap (λ b. if b then given_.Acked tick else given_.Working) is) ∙ e in cc)
 
 acked_tick : (old : State) (tick : ℕ) (given : LogAnswer) (number : ℕ) → given ≡ given_.Acked number → (new : State) → CoversBy tick old given new → number ≡ tick
@@ -149,7 +158,8 @@ cover_exact laws keepers past old new tick given c e d =
       );
     }
 
-pub cover_refused : KeeperLaws → (past : Past) (state : State) (tick : ℕ) (refusal : Refusal) → IsCoreAt past state → Some refusal ≡ refusal_in state tick → IsCoverAnswer past state tick (answer.Refused refusal)
+pub cover_refused : KeeperLaws → (past : Past) (state : State) (tick : ℕ) (refusal : Refusal) → IsCoreAt past state
+    → Some refusal ≡ refusal_in state tick → IsCoverAnswer past state tick (answer.Refused refusal)
 cover_refused keepers past state tick refusal c e = record {
   is = ap (λ r. unless_refused r (answer.Log (cover_answer state.log tick state.queue))) (e ∙ cover_refusal_is keepers past state tick c);
   receipt = λ number is. absurd (let g = is in cc);

@@ -68,7 +68,8 @@ keeper_up true tick keeper idle = begun_up keeper.target_shut
 
 -- ---- the keepers
 
-module _ (keepers : KeeperLaws) (cells : ℕ) (newest : Option (Slot × ℕ)) (tick : ℕ) (words : List ℕ) (round : Bool) (image_a image_b log_a log_b : List ℕ) (new : State) (b : Begins cells newest tick words round image_a image_b log_a log_b new)
+module _ (keepers : KeeperLaws) (cells : ℕ) (newest : Option (Slot × ℕ)) (tick : ℕ) (words : List ℕ) (round : Bool)
+    (image_a image_b log_a log_b : List ℕ) (new : State) (b : Begins cells newest tick words round image_a image_b log_a log_b new)
     (some : 1 ≤ cells) (few : cells ≤ CELLS) (numbered : tick ≤ TICK_MAX) (images : ImageFiles) (reported : IsReported cells newest images image_a image_b) where
   made : ImagesIn (made_keeper cells newest (is_shut image_a) (is_shut image_b)) images new.image_a.inner new.image_b.inner
   made = keepers.made cells newest (is_shut image_a) (is_shut image_b) images new.image_a new.image_b some few (only image_a new.image_a b.file_a) (only image_b new.image_b b.file_b)
@@ -102,7 +103,8 @@ pub begins_core : QueueLaws → KeeperLaws → (cells : ℕ) (newest : Option (S
     → past.standing ≡ standing_at (newest_tick newest) tick round (is_shut log_a) (is_shut log_b) → past.has_image ≡ is_known images → newest_in images ≡ newest
     → InStep (replicate cells 0) past.history.ticks past.acknowledged new.content (images_begun round tick images) (InStart (start_at tick before_a before_b)) []
     → IsCoreAt past new
-begins_core queues keepers cells newest tick words round image_a image_b log_a log_b past new b some few numbered images reported no_round before_a before_b reads_a reads_b count idle whole after standing known newest_is in_step =
+begins_core queues keepers cells newest tick words round image_a image_b log_a log_b past new b some few numbered images reported
+    no_round before_a before_b reads_a reads_b count idle whole after standing known newest_is in_step =
     let live = built_live words round new.content b.store in
     let q = queues.begins tick (is_shut log_a) (is_shut log_b) in
     let log_is = sym b.log in
@@ -129,7 +131,8 @@ begins_core queues keepers cells newest tick words round image_a image_b log_a l
         };
         queue_follows = subst (λ k. QueueFollows k new.queue) log_is (subst (QueueFollows (begun tick (is_shut log_a) (is_shut log_b))) (sym b.queue) q.0);
         queue_end = ap (λ k. end_of k new.queue) b.log ∙ ap (end_of (begun tick (is_shut log_a) (is_shut log_b))) b.queue ∙ q.1
-            ∙ ap (λ n. record { base = n; count = 0 }) (let e : tick ≡ new.ended - new.since = omega (arith, b.ended, b.since) in e) ∙ ap (λ n. record { base = new.ended - new.since; count = n }) (sym b.since);
+            ∙ ap (λ n. record { base = n; count = 0 })
+            (let e : tick ≡ new.ended - new.since = omega (arith, b.ended, b.since) in e) ∙ ap (λ n. record { base = new.ended - new.since; count = n }) (sym b.since);
         taken = [];
         records = ap (λ (s : Standing). s.records) standing ∙ ap (map queued_of) (sym b.queue);
       };
@@ -137,13 +140,16 @@ begins_core queues keepers cells newest tick words round image_a image_b log_a l
       place = start_of tick before_a before_b (start_moves (is_shut log_a) (is_shut log_b));
       has_images = has_images keepers cells newest tick words round image_a image_b log_a log_b new b some few numbered images reported;
       has_log = has_log keepers cells newest tick words round image_a image_b log_a log_b new b some few numbered images reported before_a before_b reads_a reads_b;
-      in_step = subst (λ n. InStep (replicate n 0) past.history.ticks past.acknowledged new.content (images_begun round tick images) (InStart (start_at tick before_a before_b)) new.queue) (sym b.cells_are)
+      in_step =
+          subst (λ n. InStep (replicate n 0) past.history.ticks past.acknowledged new.content (images_begun round tick images) (InStart (start_at tick before_a before_b)) new.queue) (sym b.cells_are)
           (subst (InStep (replicate cells 0) past.history.ticks past.acknowledged new.content (images_begun round tick images) (InStart (start_at tick before_a before_b))) (sym b.queue) in_step);
       at_rest = b.running;
       reported = record {
         is_image_known = known ∙ sym (with_round_known round tick images);
         start_left = ap (λ (s : Standing). s.start_left) standing;
-        image_down = ap (λ (s : Standing). s.is_image_down) standing ∙ keeper_up round tick (made_keeper cells newest (is_shut image_a) (is_shut image_b)) refl ∙ ap (λ (k : Progress). is_down k.phase) (sym b.images);
+        image_down =
+            ap (λ (s : Standing). s.is_image_down) standing
+            ∙ keeper_up round tick (made_keeper cells newest (is_shut image_a) (is_shut image_b)) refl ∙ ap (λ (k : Progress). is_down k.phase) (sym b.images);
         log_down = ap (λ (s : Standing). s.is_log_down) standing ∙ ap (λ (k : LogProgress). k.down) (sym b.log);
         round = ap (λ (s : Standing). s.round) standing ∙ with_round_tick round tick images no_round;
         newest = ap (λ (s : Standing). s.newest) standing ∙ ap newest_tick (sym newest_is ∙ sym (with_round_newest round tick images));

@@ -1,5 +1,7 @@
 -- The keepers and the queue of a core agree with its moves and answers.
-use Rattle.std.proofs.Common.{◌≡◌, ◌↔◌, ℕ, ◌<◌, Bool, true, false, nat_eq, nat_lt, nat_le, not, if◌then◌else◌, ◌&&◌, List, [], ◌∷◌, length, Option, Some, None, is_some, option_map, IsTrue, eq-eqb, eqb-true, suc, lt-ltb, ltb-true, refl, sym, ap, ◌∙◌, arith}
+use Rattle.std.proofs.Common.{◌≡◌, ◌↔◌, ℕ, ◌<◌, Bool, true, false, nat_eq, nat_lt, nat_le, not, if◌then◌else◌, ◌&&◌, List, []}
+use Rattle.std.proofs.Common.{◌∷◌, length, Option, Some, None, is_some, option_map, IsTrue, eq-eqb, eqb-true, suc, lt-ltb}
+use Rattle.std.proofs.Common.{ltb-true, refl, sym, ap, ◌∙◌, arith}
 use Rattle.world_actions.specs.declared.action.Action.{Action}
 use Rattle.world_actions.specs.declared.refusal.Refusal.TheVariants.{Starting, LogDown, ImageDown, OpenTick, Busy, NothingNew, QueueFull}
 use Rattle.image_files.specs.declared.phase.Phase.{Phase}
@@ -57,10 +59,13 @@ pub mark_refusal_is : KeeperLaws → (past : Past) (state : State) → IsCoreAt 
 mark_refusal_is laws past state c =
     let st = past.standing in
     let queued = length state.queue in
-    ap (λ b. mark_refusal b state.log.down (is_down state.images.phase) (is_in_round state.images.phase) state.ended (newest_tick state.images.newest) queued state.running) (starting_is laws past state c)
-    ∙ ap (λ b. mark_refusal (is_starting st) b (is_down state.images.phase) (is_in_round state.images.phase) state.ended (newest_tick state.images.newest) queued state.running) (sym c.reported.log_down)
+    ap (λ b. mark_refusal b state.log.down (is_down state.images.phase) (is_in_round state.images.phase) state.ended
+    (newest_tick state.images.newest) queued state.running) (starting_is laws past state c)
+    ∙ ap
+    (λ b. mark_refusal (is_starting st) b (is_down state.images.phase) (is_in_round state.images.phase) state.ended (newest_tick state.images.newest) queued state.running) (sym c.reported.log_down)
     ∙ ap (λ b. mark_refusal (is_starting st) st.is_log_down b (is_in_round state.images.phase) state.ended (newest_tick state.images.newest) queued state.running) (sym c.reported.image_down)
-    ∙ ap (λ b. mark_refusal (is_starting st) st.is_log_down st.is_image_down b state.ended (newest_tick state.images.newest) queued state.running) (round_is laws past state c ∙ sym (open_is past state c))
+    ∙ ap
+    (λ b. mark_refusal (is_starting st) st.is_log_down st.is_image_down b state.ended (newest_tick state.images.newest) queued state.running) (round_is laws past state c ∙ sym (open_is past state c))
     ∙ ap (λ n. mark_refusal (is_starting st) st.is_log_down st.is_image_down (is_round_open st) n (newest_tick state.images.newest) queued state.running) c.counted.ended
     ∙ ap (λ n. mark_refusal (is_starting st) st.is_log_down st.is_image_down (is_round_open st) (length past.history.ticks) n queued state.running)
     (ap newest_tick (laws.newest state.images c.images state.image_a state.image_b c.has_images) ∙ sym c.reported.newest)
@@ -86,7 +91,11 @@ none_running [] e = refl
 none_running (action ∷ running) e = absurd (not_empty (length running) e)
 
 mark_allowed_by : (starting down image_down in_round same full empty : Bool) (ended newest : ℕ) (running : List Action) → same ≡ nat_eq ended newest → empty ≡ nat_eq (length running) 0
-    → None ≡ (if starting then Some Starting else (if down then Some LogDown else (if image_down then Some ImageDown else (if not empty then Some OpenTick else (if in_round then Some Busy else (if same then Some NothingNew else (if full then Some QueueFull else None)))))))
+    → None
+    ≡ (if starting then Some Starting else
+    (if down
+    then Some LogDown else
+    (if image_down then Some ImageDown else (if not empty then Some OpenTick else (if in_round then Some Busy else (if same then Some NothingNew else (if full then Some QueueFull else None)))))))
     → MayMark starting in_round ended newest running
 mark_allowed_by true down image_down in_round same full empty ended newest running s r e = absurd (let g = e in cc)
 mark_allowed_by false true image_down in_round same full empty ended newest running s r e = absurd (let g = e in cc)
@@ -97,7 +106,8 @@ mark_allowed_by false false false false true full true ended newest running s r 
 mark_allowed_by false false false false false full true ended newest running s r e =
     record { has_started = refl; idle = none_running running (sym r); at_rest = refl; news = λ h. (let g : true ≡ false = sym (eq-eqb ended newest h) ∙ sym s in cc) }
 
-pub mark_allowed : (starting down image_down in_round : Bool) (ended newest queued : ℕ) (running : List Action) → None ≡ mark_refusal starting down image_down in_round ended newest queued running → MayMark starting in_round ended newest running
+pub mark_allowed : (starting down image_down in_round : Bool) (ended newest queued : ℕ) (running : List Action)
+    → None ≡ mark_refusal starting down image_down in_round ended newest queued running → MayMark starting in_round ended newest running
 mark_allowed starting down image_down in_round ended newest queued running e =
     mark_allowed_by starting down image_down in_round (nat_eq ended newest) (nat_le queue_most queued) (nat_eq (length running) 0) ended newest running refl refl e
 
@@ -112,5 +122,6 @@ no_wait_by true false None is e h = refl
 no_wait_by true false (Some round) is e h = absurd (let g = is in cc)
 no_wait_by false in_round round is e h = absurd (let g = h in cc)
 
-pub no_wait : KeeperLaws → (past : Past) (state : State) (c : IsCoreAt past state) → (state.log.starting && is_in_round state.images.phase) ≡ false → state.log.starting ≡ true → round_in c.images ≡ None
+pub no_wait : KeeperLaws → (past : Past) (state : State) (c : IsCoreAt past state)
+    → (state.log.starting && is_in_round state.images.phase) ≡ false → state.log.starting ≡ true → round_in c.images ≡ None
 no_wait laws past state c e = no_wait_by state.log.starting (is_in_round state.images.phase) (round_in c.images) (round_is laws past state c) e

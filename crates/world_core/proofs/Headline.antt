@@ -21,7 +21,8 @@ use Rattle.world_core.specs.Written.{NoneIsEmpty, AreWritten, StayWritten}
 use Rattle.world_core.specs.Plain.{AreWords, IsPlainLogAnswer, IsPlainAnswer, AreAnswered, HasRun}
 use Rattle.world_core.proofs.Safe.{core_is_safe}
 
-pub past_of-more : (past : Past) (moves : List Move) (answers : List Answer) (asked : Move) (given : Answer) → length answers ≡ length moves → past_of past (moves ++ asked ∷ []) (answers ++ given ∷ []) ≡ past_after (past_of past moves answers) asked given
+pub past_of-more : (past : Past) (moves : List Move) (answers : List Answer) (asked : Move) (given : Answer)
+    → length answers ≡ length moves → past_of past (moves ++ asked ∷ []) (answers ++ given ∷ []) ≡ past_after (past_of past moves answers) asked given
 past_of-more past [] [] asked given e = refl
 past_of-more past [] (first ∷ answers) asked given e = absurd (omega (arith, e))
 past_of-more past (first ∷ moves) [] asked given e = absurd (omega (arith, e))
@@ -44,7 +45,8 @@ past_of-opened past [] (given ∷ answers) e = absurd (omega (arith, e))
 past_of-opened past (asked ∷ moves) [] e = absurd (omega (arith, e))
 past_of-opened past (asked ∷ moves) (given ∷ answers) e = past_of-opened (past_after past asked given) moves answers (omega (arith, e))
 
-headline : SafetyLaws → (cells : ℕ) (moves : List Move) (answers : List Answer) (state : State) → length answers ≡ length moves → state.cells ≡ cells → IsCoreAt (past_of fresh_past moves answers) state
+headline : SafetyLaws → (cells : ℕ) (moves : List Move) (answers : List Answer) (state : State) → length answers ≡ length moves
+    → state.cells ≡ cells → IsCoreAt (past_of fresh_past moves answers) state
     → Headline cells moves answers (files_in state)
 headline laws cells moves answers state e same c =
     let past = past_of fresh_past moves answers in
@@ -60,7 +62,8 @@ one_longer : {A B : Type 0} (xs : List A) (ys : List B) (x : A) (y : B) → leng
 one_longer xs ys x y e = omega (arith, e, length-append xs (x ∷ []), length-append ys (y ∷ []))
 
 -- one more move
-pub runs-more : (past : Past) (first mid last : State) (moves : List Move) (answers : List Answer) (asked : Move) (given : Answer) → Runs past first moves answers mid → Answers (past_of past moves answers) mid asked given last
+pub runs-more : (past : Past) (first mid last : State) (moves : List Move) (answers : List Answer) (asked : Move) (given : Answer)
+    → Runs past first moves answers mid → Answers (past_of past moves answers) mid asked given last
     → Runs past first (moves ++ asked ∷ []) (answers ++ given ∷ []) last
 runs-more past first mid last [] [] asked given r a = (last, subst (λ s. Answers past s asked given last) r a, refl)
 runs-more past first mid last [] (other ∷ answers) asked given r a = absurd r
@@ -80,7 +83,8 @@ plain_log past state log_answer.Working e = (e.0, e.1)
 plain_log past state (log_answer.Acked tick) e = (e.0, e.1, omega (arith, e.3))
 plain_log past state log_answer.Down e = e
 
-plain_is : SafetyLaws → (cells : ℕ) (past : Past) (state : State) → IsCoreAt past state → state.cells ≡ cells → (asked : Move) (given : Answer) → IsExact past state asked given → IsPlainAnswer cells past asked given
+plain_is : SafetyLaws → (cells : ℕ) (past : Past) (state : State) → IsCoreAt past state → state.cells ≡ cells
+    → (asked : Move) (given : Answer) → IsExact past state asked given → IsPlainAnswer cells past asked given
 plain_is laws cells past state c same (move.Act action) given e = (state.content.live, words_are cells past state c same, e)
 plain_is laws cells past state c same (move.Get cell) given e = (state.content.live, words_are cells past state c same, e)
 plain_is laws cells past state c same move.End given e = (length state.queue, e)
@@ -94,7 +98,8 @@ plain_is laws cells past state c same (move.Crash left) given e =
     (files_in state, subst (λ n. AreSafe past.has_image (files_in state) (replicate n 0) past.history.ticks past.acknowledged) same (core_is_safe laws past state c), e)
 
 -- one more move
-answered-more : (cells : ℕ) (past : Past) (moves : List Move) (answers : List Answer) (asked : Move) (given : Answer) → AreAnswered cells past moves answers → IsPlainAnswer cells (past_of past moves answers) asked given
+answered-more : (cells : ℕ) (past : Past) (moves : List Move) (answers : List Answer) (asked : Move) (given : Answer)
+    → AreAnswered cells past moves answers → IsPlainAnswer cells (past_of past moves answers) asked given
     → AreAnswered cells past (moves ++ asked ∷ []) (answers ++ given ∷ [])
 answered-more cells past [] [] asked given r a = (a, tt)
 answered-more cells past [] (other ∷ answers) asked given r a = absurd r
@@ -119,7 +124,8 @@ has_run_more laws stay cells old new moves answers now asked given h step same e
       ap length e ∙ one_longer answers moves given asked h.1,
       same ∙ h.2,
       (h.3.0, h.3.1, subst (λ a. Runs fresh_past h.3.0 (moves ++ asked ∷ []) a new) (sym e) (runs-more fresh_past h.3.0 old new moves answers asked given h.3.2 one.1)),
-      subst (λ a. AreAnswered cells fresh_past (moves ++ asked ∷ []) a) (sym e) (answered-more cells fresh_past moves answers asked given h.4 (plain_is laws cells past old h.0 h.2 asked given one.1.exact)),
+      subst (λ a. AreAnswered cells fresh_past (moves ++ asked ∷ []) a) (sym e)
+          (answered-more cells fresh_past moves answers asked given h.4 (plain_is laws cells past old h.0 h.2 asked given one.1.exact)),
       subst (λ a. AreWritten (past_of fresh_past (moves ++ asked ∷ []) a) new) (sym e)
           (subst (λ p. AreWritten p new) (sym (past_of-more fresh_past moves answers asked given h.1)) (stay.moves past old asked given new h.0 one.0 one.1 h.5)),
     )
@@ -140,7 +146,8 @@ pub run_cells : (cells : ℕ) (moves : List Move) (answers : List Answer) (state
 unfolding HasRun
 run_cells cells moves answers state h = h.2
 
-pub run_answers : (cells : ℕ) (moves : List Move) (answers : List Answer) (state : State) → HasRun cells moves answers state → (first : State) × BeginsFresh cells first × Runs fresh_past first moves answers state
+pub run_answers : (cells : ℕ) (moves : List Move) (answers : List Answer) (state : State) → HasRun cells moves answers state
+    → (first : State) × BeginsFresh cells first × Runs fresh_past first moves answers state
 unfolding HasRun
 run_answers cells moves answers state h = h.3
 

@@ -48,7 +48,8 @@ phase_up p h = refl
 both_up : (old new : Phase) (given : ImageAnswer) → (given ≡ given_.Down → ⊥) → (given ≡ given_.Down) ↔ (new ≡ Down) → (old ≡ Down → given ≡ given_.Down) → is_down old ≡ is_down new
 both_up old new given h down stays = phase_up old (λ e. h (stays e)) ∙ sym (phase_up new (λ e. h (down.1 e)))
 
-down_after : (standing : Standing) (running : List Action) (fate : Fate) (old new : Phase) (given : ImageAnswer) → (given ≡ given_.Down) ↔ (new ≡ Down) → (old ≡ Down → given ≡ given_.Down) → standing.is_image_down ≡ is_down old
+down_after : (standing : Standing) (running : List Action) (fate : Fate) (old new : Phase) (given : ImageAnswer)
+    → (given ≡ given_.Down) ↔ (new ≡ Down) → (old ≡ Down → given ≡ given_.Down) → standing.is_image_down ≡ is_down old
     → (standing_after standing running (move.Image fate) (answer.Image given)).is_image_down ≡ is_down new
 down_after standing running fate old new given_.Idle down stays e = e ∙ both_up old new given_.Idle (λ h. let g = h in cc) down stays
 down_after standing running fate old new given_.Working down stays e = e ∙ both_up old new given_.Working (λ h. let g = h in cc) down stays
@@ -87,7 +88,8 @@ opened_known round (NoneYet images) = refl
 opened_known round (Newest images) = refl
 
 module _ (cells : ℕ) (old new : Content) where
-  round_after : (standing : Standing) (running : List Action) (fate : Fate) (images : ImageFiles) (given : ImageAnswer) (next : ImageFiles) → StepsImages Takes cells images given next old new → standing.round ≡ round_tick (round_in images)
+  round_after : (standing : Standing) (running : List Action) (fate : Fate) (images : ImageFiles) (given : ImageAnswer)
+      (next : ImageFiles) → StepsImages Takes cells images given next old new → standing.round ≡ round_tick (round_in images)
       → (standing_after standing running (move.Image fate) (answer.Image given)).round ≡ round_tick (round_in next)
   round_after standing running fate images given_.Idle next s e = e ∙ ap (λ i. round_tick (round_in i)) (sym s.1)
   round_after standing running fate images given_.Working next s e = elim s.2 [
@@ -97,7 +99,8 @@ module _ (cells : ℕ) (old new : Content) where
   round_after standing running fate images (given_.Opened tick) next s e = opened_none s.0 images ∙ ap (λ i. round_tick (round_in i)) (sym s.4)
   round_after standing running fate images given_.Down next s e = e ∙ ap (λ i. round_tick (round_in i)) (sym s.2)
 
-  newest_after : (standing : Standing) (running : List Action) (fate : Fate) (images : ImageFiles) (given : ImageAnswer) (next : ImageFiles) → StepsImages Takes cells images given next old new → standing.newest ≡ newest_tick (newest_in images)
+  newest_after : (standing : Standing) (running : List Action) (fate : Fate) (images : ImageFiles) (given : ImageAnswer)
+      (next : ImageFiles) → StepsImages Takes cells images given next old new → standing.newest ≡ newest_tick (newest_in images)
       → (standing_after standing running (move.Image fate) (answer.Image given)).newest ≡ newest_tick (newest_in next)
   newest_after standing running fate images given_.Idle next s e = e ∙ ap (λ i. newest_tick (newest_in i)) (sym s.1)
   newest_after standing running fate images given_.Working next s e = elim s.2 [
@@ -107,7 +110,8 @@ module _ (cells : ℕ) (old new : Content) where
   newest_after standing running fate images (given_.Opened tick) next s e = s.2 ∙ opened_newest s.0 images ∙ ap (λ i. newest_tick (newest_in i)) (sym s.4)
   newest_after standing running fate images given_.Down next s e = e ∙ ap (λ i. newest_tick (newest_in i)) (sym s.2)
 
-  known_after : (known : Bool) (images : ImageFiles) (given : ImageAnswer) (next : ImageFiles) → StepsImages Takes cells images given next old new → known ≡ is_known images → (opens (answer.Image given) || known) ≡ is_known next
+  known_after : (known : Bool) (images : ImageFiles) (given : ImageAnswer) (next : ImageFiles)
+      → StepsImages Takes cells images given next old new → known ≡ is_known images → (opens (answer.Image given) || known) ≡ is_known next
   known_after known images given_.Idle next s e = e ∙ ap is_known (sym s.1)
   known_after known images given_.Working next s e = elim s.2 [
     | inl same ↦ e ∙ ap is_known (sym same.0)
@@ -127,13 +131,15 @@ step_live cells old new images given_.Working next s = elim s.2 [
 step_live cells old new images (given_.Opened tick) next s = ap (λ (c : Content). c.live) s.5
 step_live cells old new images given_.Down next s = ap (λ (c : Content). c.live) s.3
 
-pub image_keeps : EventLaws → (past : Past) (old new : State) (fate : Fate) (given : ImageAnswer) → IsCoreAt past old → StepsImageKeeper fate old given new → IsCoreAt (past_after past (move.Image fate) (answer.Image given)) new
+pub image_keeps : EventLaws → (past : Past) (old new : State) (fate : Fate) (given : ImageAnswer) → IsCoreAt past old
+    → StepsImageKeeper fate old given new → IsCoreAt (past_after past (move.Image fate) (answer.Image given)) new
 image_keeps laws past old new fate given c d =
     let after = past_after past (move.Image fate) (answer.Image given) in
     let moved : State = record old { content = new.content; images = new.images; image_a = new.image_a; image_b = new.image_b } in
     let s = d.stands c.images c.has_images in
     let steps : StepsImages Takes old.cells c.images given s.0 old.content new.content = subst (λ n. StepsImages Takes n c.images given s.0 old.content new.content) c.keeper_cells s.2 in
-    let steps_zeros : StepsImages Takes (length (replicate old.cells 0)) c.images given s.0 old.content new.content = subst (λ n. StepsImages Takes n c.images given s.0 old.content new.content) (sym (length-replicate old.cells 0)) steps in
+    let steps_zeros : StepsImages Takes (length (replicate old.cells 0)) c.images given s.0 old.content new.content = subst
+    (λ n. StepsImages Takes n c.images given s.0 old.content new.content) (sym (length-replicate old.cells 0)) steps in
     let round = round_after old.cells old.content new.content past.standing past.history.running fate c.images given s.0 steps c.reported.round in
     let newest = newest_after old.cells old.content new.content past.standing past.history.running fate c.images given s.0 steps c.reported.newest in
     let st = image_standing past.standing past.history.running fate given in
@@ -142,7 +148,14 @@ image_keeps laws past old new fate given c d =
     let is : IsCoreAt after moved = record {
       cells = record { some_cells = c.some_cells; few_cells = c.few_cells; keeper_cells = d.cells ∙ c.keeper_cells };
       live = record { last = c.live.last; after_ended = c.live.after_ended; live = c.live.live ∙ ap (λ w. Ok w) (sym live); all = ap length live ∙ c.live.all; running = c.live.running };
-      counted = record { numbers = subst (λ n. HasEnded past.history.ticks n old.ended old.since) (sym st.since) k.numbers; queue_follows = k.queue_follows; queue_end = k.queue_end; taken = k.taken; records = st.records ∙ k.records };
+      counted =
+          record {
+            numbers = subst (λ n. HasEnded past.history.ticks n old.ended old.since) (sym st.since) k.numbers;
+            queue_follows = k.queue_follows;
+            queue_end = k.queue_end;
+            taken = k.taken;
+            records = st.records ∙ k.records;
+          };
       images = s.0;
       place = c.place;
       has_images = s.1;
@@ -167,10 +180,13 @@ gave_none [] e = refl
 gave_none (entry ∷ left) e = absurd (let g = e in cc)
 
 -- a capture with an open round has a cell left for each that isn't taken
-no_empty_take : EventLaws → KeeperLaws → (past : Past) (old new : State) (c : IsCoreAt past old) (round : Round) → round_in c.images ≡ Some round → cells_taken old.images < old.images.cells → Takes old.content None new.content → ⊥
+no_empty_take : EventLaws → KeeperLaws → (past : Past) (old new : State) (c : IsCoreAt past old) (round : Round)
+    → round_in c.images ≡ Some round → cells_taken old.images < old.images.cells → Takes old.content None new.content → ⊥
 no_empty_take laws keepers past old new c round is fewer t =
-    let r = keepers.round old.images c.images old.image_a old.image_b c.has_images (λ e. (let g : None ≡ Some round = sym (keepers.idle old.images c.images old.image_a old.image_b c.has_images e) ∙ is in absurd (let h = g in cc))) in
-    let full : length r.0.taken ≡ old.cells = laws.goes_on.all_taken (replicate old.cells 0) past.history.ticks old.content c.images r.0 r.1 (gave_none old.content.left t.gives) c.in_step.store ∙ length-replicate old.cells 0 in
+    let r = keepers.round old.images c.images old.image_a old.image_b c.has_images
+    (λ e. (let g : None ≡ Some round = sym (keepers.idle old.images c.images old.image_a old.image_b c.has_images e) ∙ is in absurd (let h = g in cc))) in
+    let full : length r.0.taken ≡ old.cells = laws.goes_on.all_taken (replicate old.cells 0) past.history.ticks old.content
+    c.images r.0 r.1 (gave_none old.content.left t.gives) c.in_step.store ∙ length-replicate old.cells 0 in
     omega (arith, fewer, full, r.3, c.keeper_cells)
 
 -- a keeper in a round that isn't down has moves left
@@ -182,7 +198,8 @@ some_left p k idle down = omega arith
 none_left : (keeper old : Progress) → keeper ≡ opened_keeper old → left_of keeper ≡ 0
 none_left keeper old e = ap left_of e
 
-pub image_progress : EventLaws → KeeperLaws → (past : Past) (old new : State) (fate : Fate) (given : ImageAnswer) → IsCoreAt past old → StepsImageKeeper fate old given new → Progresses (move.Image fate) (answer.Image given) old new
+pub image_progress : EventLaws → KeeperLaws → (past : Past) (old new : State) (fate : Fate) (given : ImageAnswer)
+    → IsCoreAt past old → StepsImageKeeper fate old given new → Progresses (move.Image fate) (answer.Image given) old new
 image_progress laws keepers past old new fate given_.Idle c d = tt
 image_progress laws keepers past old new fate given_.Working c d = elim d.working [
   | inl less ↦ less
@@ -203,10 +220,14 @@ is_open standing tick e = ap is_some e
 pub image_exact : (past : Past) (old new : State) (fate : Fate) (given : ImageAnswer) → IsCoreAt past old → StepsImageKeeper fate old given new → IsImageAnswer past.standing given
 image_exact past old new fate given_.Idle c d = c.reported.round ∙ ap round_tick (d.stands c.images c.has_images).2.0
 image_exact past old new fate given_.Working c d =
-    let s = (d.stands c.images c.has_images).2 in
-    (is_open past.standing.round s.0.tick (some_round past.standing.round (round_in c.images) s.0 c.reported.round s.1), c.reported.image_down ∙ phase_up old.images.phase (λ e. (let g = d.stays_down e in absurd (let h = g in cc))))
+    let s = (d.stands c.images c.has_images).2 in (
+      is_open past.standing.round s.0.tick (some_round past.standing.round (round_in c.images) s.0 c.reported.round s.1),
+      c.reported.image_down ∙ phase_up old.images.phase (λ e. (let g = d.stays_down e in absurd (let h = g in cc))),
+    )
 image_exact past old new fate (given_.Opened tick) c d =
-    let s = (d.stands c.images c.has_images).2 in
-    (some_round past.standing.round (round_in c.images) s.0 c.reported.round s.1 ∙ ap (λ t. Some t) (sym s.2), c.reported.image_down ∙ phase_up old.images.phase (λ e. (let g = d.stays_down e in absurd (let h = g in cc))))
+    let s = (d.stands c.images c.has_images).2 in (
+      some_round past.standing.round (round_in c.images) s.0 c.reported.round s.1 ∙ ap (λ t. Some t) (sym s.2),
+      c.reported.image_down ∙ phase_up old.images.phase (λ e. (let g = d.stays_down e in absurd (let h = g in cc))),
+    )
 image_exact past old new fate given_.Down c d =
     let s = (d.stands c.images c.has_images).2 in is_open past.standing.round s.0.tick (some_round past.standing.round (round_in c.images) s.0 c.reported.round s.1)

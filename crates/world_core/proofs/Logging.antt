@@ -45,7 +45,8 @@ up_of false h = refl
 both_up : (old new : Bool) (given : LogAnswer) → (given ≡ given_.Down → ⊥) → (given ≡ given_.Down) ↔ (new ≡ true) → (old ≡ true → given ≡ given_.Down) → old ≡ new
 both_up old new given h down stays = up_of old (λ e. h (stays e)) ∙ sym (up_of new (λ e. h (down.1 e)))
 
-down_after : (standing : Standing) (running : List Action) (fate : Fate) (old new : Bool) (given : LogAnswer) → (given ≡ given_.Down) ↔ (new ≡ true) → (old ≡ true → given ≡ given_.Down) → standing.is_log_down ≡ old
+down_after : (standing : Standing) (running : List Action) (fate : Fate) (old new : Bool) (given : LogAnswer)
+    → (given ≡ given_.Down) ↔ (new ≡ true) → (old ≡ true → given ≡ given_.Down) → standing.is_log_down ≡ old
     → (standing_after standing running (move.Log fate) (answer.Log given)).is_log_down ≡ new
 down_after standing running fate old new given_.Idle down stays e = e ∙ both_up old new given_.Idle (λ h. let g = h in cc) down stays
 down_after standing running fate old new given_.Working down stays e = e ∙ both_up old new given_.Working (λ h. let g = h in cc) down stays
@@ -79,7 +80,8 @@ counts acknowledged (given_.Acked tick) = refl
 counts acknowledged given_.Down = refl
 
 -- the start's log part doesn't wait
-none_waited : (state : State) (images : ImageFiles) (journal : Journal) (left : ℕ) → HasLog state (record { journal = journal; left = left }) → (state.log.starting ≡ true → round_in images ≡ None) → NoneWaitedFor journal images
+none_waited : (state : State) (images : ImageFiles) (journal : Journal) (left : ℕ)
+    → HasLog state (record { journal = journal; left = left }) → (state.log.starting ≡ true → round_in images ≡ None) → NoneWaitedFor journal images
 none_waited state images (InStart start) left stands waits = waits stands.in_work
 none_waited state images (Writing logs) left stands waits = tt
 
@@ -87,7 +89,8 @@ pub empty_rests : (journal : Journal) (running : List Action) → running ≡ []
 empty_rests (InStart start) running e = e
 empty_rests (Writing logs) running e = tt
 
-log_rests : (running : List Action) (journal : Journal) (left : ℕ) (queue : List Record) (given : LogAnswer) (next : LogPlace) (rest : List Record) → StepIn journal left queue given next rest → IsAtRest journal running → IsAtRest next.journal running
+log_rests : (running : List Action) (journal : Journal) (left : ℕ) (queue : List Record) (given : LogAnswer) (next : LogPlace)
+    (rest : List Record) → StepIn journal left queue given next rest → IsAtRest journal running → IsAtRest next.journal running
 log_rests running (InStart start) left queue given next rest s at_rest = empty_rests next.journal running at_rest
 log_rests running (Writing logs) left queue given next rest s at_rest = subst (λ (p : LogPlace). IsAtRest p.journal running) (sym s.1) tt
 
@@ -99,7 +102,8 @@ none_in state (Writing current) left stands logs e = stands.1
 pub stays_down : (old new : State) (fate : Fate) (given : LogAnswer) → StepsLogKeeper fate old given new → old.log.down ≡ true → given ≡ given_.Down
 stays_down old new fate given d e = d.down.1 (ap (λ k. k.down) (d.rests (inr e)).0 ∙ e)
 
-pub log_keeps : EventLaws → (past : Past) (old new : State) (fate : Fate) (given : LogAnswer) → (c : IsCoreAt past old) → (old.log.starting ≡ true → round_in c.images ≡ None) → StepsLogKeeper fate old given new
+pub log_keeps : EventLaws → (past : Past) (old new : State) (fate : Fate) (given : LogAnswer) → (c : IsCoreAt past old)
+    → (old.log.starting ≡ true → round_in c.images ≡ None) → StepsLogKeeper fate old given new
     → IsCoreAt (past_after past (move.Log fate) (answer.Log given)) new
 log_keeps laws past old new fate given c waits d =
     let after = past_after past (move.Log fate) (answer.Log given) in
@@ -115,7 +119,9 @@ log_keeps laws past old new fate given c waits d =
         queue_follows = d.follows;
         queue_end = d.end ∙ k.queue_end;
         taken = k.taken ++ map queued_of (taken old.log old.queue);
-        records = st.records ∙ k.records ∙ ap (λ q. k.taken ++ map queued_of q) d.front ∙ ap (λ l. k.taken ++ l) (map-append queued_of (taken old.log old.queue) new.queue) ∙ sym (append_assoc k.taken (map queued_of (taken old.log old.queue)) (map queued_of new.queue));
+        records =
+            st.records ∙ k.records ∙ ap (λ q. k.taken ++ map queued_of q) d.front ∙ ap
+            (λ l. k.taken ++ l) (map-append queued_of (taken old.log old.queue) new.queue) ∙ sym (append_assoc k.taken (map queued_of (taken old.log old.queue)) (map queued_of new.queue));
       };
       images = c.images;
       place = s.0;
@@ -127,7 +133,9 @@ log_keeps laws past old new fate given c waits d =
       at_rest = log_rests old.running c.place.journal c.place.left old.queue given s.0 new.queue s.2 c.at_rest;
       reported = record {
         is_image_known = c.reported.is_image_known;
-        start_left = left_after past.standing past.history.running fate c.place.journal c.place.left old.queue given s.0 new.queue s.2 (none_in old c.place.journal c.place.left c.has_log) c.reported.start_left;
+        start_left =
+            left_after past.standing past.history.running fate c.place.journal c.place.left old.queue given s.0 new.queue s.2
+            (none_in old c.place.journal c.place.left c.has_log) c.reported.start_left;
         image_down = st.image_down ∙ c.reported.image_down;
         log_down = down_after past.standing past.history.running fate old.log.down new.log.down given d.down (stays_down old new fate given d) c.reported.log_down;
         round = st.round ∙ c.reported.round;

@@ -18,17 +18,22 @@ use Rattle.world_core.proofs.Exact.{mark_allowed, MayMark, idle_is}
 use Rattle.world_core.proofs.Playing.{mark_keeps}
 
 abbrev pub refusal_in : State → Option Refusal
-refusal_in state = mark_refusal state.log.starting state.log.down (is_down state.images.phase) (is_in_round state.images.phase) state.ended (newest_tick state.images.newest) (length state.queue) state.running
+refusal_in state =
+    mark_refusal state.log.starting state.log.down (is_down state.images.phase) (is_in_round state.images.phase) state.ended (newest_tick state.images.newest) (length state.queue) state.running
 
 pub may_mark : (state : State) → None ≡ refusal_in state → MayMark state.log.starting (is_in_round state.images.phase) state.ended (newest_tick state.images.newest) state.running
-may_mark state e = mark_allowed state.log.starting state.log.down (is_down state.images.phase) (is_in_round state.images.phase) state.ended (newest_tick state.images.newest) (length state.queue) state.running e
+may_mark state e =
+    mark_allowed state.log.starting state.log.down (is_down state.images.phase) (is_in_round state.images.phase) state.ended (newest_tick state.images.newest) (length state.queue) state.running e
 
-nothing_left : (first : List ℕ) (ticks : List (List Action)) (content : Content) (newest : List ℕ) (round : Option Round) → round ≡ None → StoreFollows first ticks content newest round → content.left ≡ []
+nothing_left : (first : List ℕ) (ticks : List (List Action)) (content : Content) (newest : List ℕ) (round : Option Round)
+    → round ≡ None → StoreFollows first ticks content newest round → content.left ≡ []
 nothing_left first ticks content newest round e s = (let g = subst (StoreFollows first ticks content newest) e s in g.0)
 
 -- if a mark may be made, no cell of a round is left
 pub none_left : KeeperLaws → (past : Past) (state : State) → IsCoreAt past state → is_in_round state.images.phase ≡ false → state.content.left ≡ []
-none_left laws past state c e = nothing_left (replicate state.cells 0) past.history.ticks state.content (words_of c.images) (round_in c.images) (laws.idle state.images c.images state.image_a state.image_b c.has_images (idle_is state.images.phase e)) c.in_step.store
+none_left laws past state c e =
+    nothing_left (replicate state.cells 0) past.history.ticks state.content (words_of c.images) (round_in c.images)
+    (laws.idle state.images c.images state.image_a state.image_b c.has_images (idle_is state.images.phase e)) c.in_step.store
 
 pub mark_from : EventLaws → QueueLaws → KeeperLaws → (past : Past) (old new : State) (number : ℕ) → IsCoreAt past old → None ≡ refusal_in old → number ≡ old.ended → BeginsRound old new
     → IsCoreAt (past_after past move.Mark (answer.Started number)) new

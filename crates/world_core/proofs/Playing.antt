@@ -1,5 +1,6 @@
 -- The moves of the mutator keep the invariant of a core.
-use Rattle.std.proofs.Common.{◌≡◌, ℕ, ◌+◌, ◌-◌, ◌<◌, ◌≤◌, Bool, true, false, nat_le, if◌then◌else◌, List, [], ◌∷◌, ◌++◌, length, map, replicate, None, Result, Ok, Err, refl, sym, ap, subst, ◌∙◌, append_assoc, arith}
+use Rattle.std.proofs.Common.{◌≡◌, ℕ, ◌+◌, ◌-◌, ◌<◌, ◌≤◌, Bool, true, false, nat_le, if◌then◌else◌, List, [], ◌∷◌, ◌++◌, length}
+use Rattle.std.proofs.Common.{map, replicate, None, Result, Ok, Err, refl, sym, ap, subst, ◌∙◌, append_assoc, arith}
 use Rattle.std.specs.List.{flat_map}
 use Rattle.std.proofs.lemmas.Grind.{flat_map-append}
 use Rattle.std.proofs.lemmas.List.{length-append, map-append, append-nil, length-replicate}
@@ -57,11 +58,13 @@ not_full : (full : Bool) (r : Result (List ℕ) Refusal) (after : List ℕ) → 
 not_full true r after e = absurd (let h = e in cc)
 not_full false r after e = e
 
-one_more : EventLaws → (last live after : List ℕ) (running : List Action) (action : Action) → after_actions last running ≡ Ok live → effect live action ≡ Ok after → after_actions last (running ++ action ∷ []) ≡ Ok after
+one_more : EventLaws → (last live after : List ℕ) (running : List Action) (action : Action) → after_actions last running ≡ Ok live
+    → effect live action ≡ Ok after → after_actions last (running ++ action ∷ []) ≡ Ok after
 one_more laws last live after running action e h =
     laws.append last running (action ∷ []) ∙ ap (λ r. and_then r (λ next. after_actions next (action ∷ []))) e ∙ ap (λ r. and_then r (λ next. Ok next)) h
 
-pub action_keeps : EventLaws → (past : Past) (old new : State) (action : Action) → IsCoreAt past old → old.log.starting ≡ false → DoesAction old action new → IsCoreAt (past_after past (move.Act action) answer.Did) new
+pub action_keeps : EventLaws → (past : Past) (old new : State) (action : Action) → IsCoreAt past old → old.log.starting ≡ false
+    → DoesAction old action new → IsCoreAt (past_after past (move.Act action) answer.Did) new
 action_keeps laws past old new action c none d =
     let after = past_after past (move.Act action) answer.Did in
     let next : State = record old { content = new.content; running = old.running ++ action ∷ [] } in
@@ -72,7 +75,9 @@ action_keeps laws past old new action c none d =
       live = record {
         last = c.live.last;
         after_ended = c.live.after_ended;
-        live = one_more laws c.live.last old.content.live new.content.live past.history.running action c.live.live (not_full (nat_le TICK_ACTIONS (length old.running)) (effect old.content.live action) new.content.live d.decided);
+        live =
+            one_more laws c.live.last old.content.live new.content.live past.history.running action c.live.live
+            (not_full (nat_le TICK_ACTIONS (length old.running)) (effect old.content.live action) new.content.live d.decided);
         all = d.cells ∙ c.live.all;
         running = ap (λ r. r ++ action ∷ []) c.live.running;
       };
@@ -81,7 +86,11 @@ action_keeps laws past old new action c none d =
       place = c.place;
       has_images = c.has_images;
       has_log = c.has_log;
-      in_step = record { store = laws.goes_on.writes (replicate old.cells 0) past.history.ticks old.content new.content c.images (ap (λ (n : Content). n.left) d.content) d.covers c.in_step.store; phase = c.in_step.phase };
+      in_step =
+          record {
+            store = laws.goes_on.writes (replicate old.cells 0) past.history.ticks old.content new.content c.images (ap (λ (n : Content). n.left) d.content) d.covers c.in_step.store;
+            phase = c.in_step.phase;
+          };
       at_rest = subst (λ j. IsAtRest j (old.running ++ action ∷ [])) (sym s.is_writing) tt;
       reported = c.reported;
     } in
@@ -89,13 +98,15 @@ action_keeps laws past old new action c none d =
 
 -- ---- a tick ends
 
-world_ended : EventLaws → (first : List ℕ) (ticks : List (List Action)) (running : List Action) (last live : List ℕ) → after_ticks first ticks ≡ Ok last → after_actions last running ≡ Ok live → after_ticks first (ticks ++ running ∷ []) ≡ Ok live
+world_ended : EventLaws → (first : List ℕ) (ticks : List (List Action)) (running : List Action) (last live : List ℕ)
+    → after_ticks first ticks ≡ Ok last → after_actions last running ≡ Ok live → after_ticks first (ticks ++ running ∷ []) ≡ Ok live
 world_ended laws first ticks running last live e h =
     ap (after_actions first) (flat_map-append (λ tick. tick) ticks (running ∷ []) ∙ ap (λ l. flat_map (λ tick. tick) ticks ++ l) (append-nil running))
     ∙ laws.append first (flat_map (λ tick. tick) ticks) running
     ∙ ap (λ r. and_then r (λ next. after_actions next running)) e ∙ h
 
-pub end_keeps : EventLaws → QueueLaws → (past : Past) (old new : State) (number : ℕ) → IsCoreAt past old → old.log.starting ≡ false → old.ended < TICK_MAX → old.since < SEGMENT_TICKS → EndsTick old new
+pub end_keeps : EventLaws → QueueLaws → (past : Past) (old new : State) (number : ℕ) → IsCoreAt past old
+    → old.log.starting ≡ false → old.ended < TICK_MAX → old.since < SEGMENT_TICKS → EndsTick old new
     → IsCoreAt (past_after past move.End (answer.Ended number)) new
 end_keeps laws queues past old new number c none numbered few d =
     let after = past_after past move.End (answer.Ended number) in
@@ -126,9 +137,19 @@ end_keeps laws queues past old new number c none numbered few d =
         running = refl;
       };
       counted = record {
-        numbers = record { ended = omega (arith, k.ended, length-append ticks (past.history.running ∷ [])); since = ap (λ n. n + 1) k.since; numbered = omega arith; few = omega arith; within = omega (arith, k.within) };
+        numbers =
+            record {
+              ended = omega (arith, k.ended, length-append ticks (past.history.running ∷ []));
+              since = ap (λ n. n + 1) k.since;
+              numbered = omega arith;
+              few = omega arith;
+              within = omega (arith, k.within);
+            };
         queue_follows = q.0;
-        queue_end = q.1 ∙ ap (λ n. record { base = n; count = (end_of old.log old.queue).count + 1 }) (let e : (end_of old.log old.queue).base ≡ old.ended + 1 - (old.since + 1) = omega (arith, base, k.within) in e) ∙ ap (λ n. record { base = old.ended + 1 - (old.since + 1); count = n + 1 }) count;
+        queue_end =
+            q.1 ∙ ap (λ n. record { base = n; count = (end_of old.log old.queue).count + 1 })
+            (let e : (end_of old.log old.queue).base ≡ old.ended + 1 - (old.since + 1) = omega (arith, base, k.within) in e) ∙ ap
+            (λ n. record { base = old.ended + 1 - (old.since + 1); count = n + 1 }) count;
         taken = k.taken;
         records = ap (λ l. l ++ QueuedTick past.history.running ∷ []) k.records ∙ append_assoc k.taken (map queued_of old.queue) (QueuedTick past.history.running ∷ [])
             ∙ ap (λ t. k.taken ++ (map queued_of old.queue ++ QueuedTick t ∷ [])) (sym same) ∙ ap (λ l. k.taken ++ l) (sym (map-append queued_of old.queue (records.Tick tick ∷ [])));
@@ -138,7 +159,9 @@ end_keeps laws queues past old new number c none numbered few d =
       has_images = c.has_images;
       has_log = c.has_log;
       in_step = subst (λ i. InStep (replicate old.cells 0) (ticks ++ past.history.running ∷ []) past.acknowledged old.content i c.place.journal (old.queue ++ records.Tick tick ∷ [])) (sym s.is_newest)
-          (subst (λ j. InStep (replicate old.cells 0) (ticks ++ past.history.running ∷ []) past.acknowledged old.content (Newest s.newest) j (old.queue ++ records.Tick tick ∷ [])) (sym s.is_writing) in_step);
+          (subst
+          (λ j. InStep (replicate old.cells 0) (ticks ++ past.history.running ∷ []) past.acknowledged old.content
+          (Newest s.newest) j (old.queue ++ records.Tick tick ∷ [])) (sym s.is_writing) in_step);
       at_rest = empty_rests c.place.journal [] refl;
       reported = c.reported;
     } in
@@ -153,7 +176,8 @@ begun_up false = refl
 no_action : (last live : List ℕ) (running : List Action) → running ≡ [] → after_actions last running ≡ Ok live → last ≡ live
 no_action last live running none e = ok_injective last live (subst (λ r. after_actions last r ≡ Ok live) none e)
 
-pub mark_keeps : EventLaws → QueueLaws → KeeperLaws → (past : Past) (old new : State) (number : ℕ) → (c : IsCoreAt past old) → old.log.starting ≡ false → old.running ≡ [] → old.images.phase ≡ Idle → (old.ended ≡ newest_tick (newest_in c.images) → ⊥) → number ≡ old.ended → BeginsRound old new
+pub mark_keeps : EventLaws → QueueLaws → KeeperLaws → (past : Past) (old new : State) (number : ℕ) → (c : IsCoreAt past old)
+    → old.log.starting ≡ false → old.running ≡ [] → old.images.phase ≡ Idle → (old.ended ≡ newest_tick (newest_in c.images) → ⊥) → number ≡ old.ended → BeginsRound old new
     → IsCoreAt (past_after past move.Mark (answer.Started number)) new
 mark_keeps laws queues keepers past old new number c none idle at_rest news is_number d =
     let after = past_after past move.Mark (answer.Started old.ended) in
@@ -173,7 +197,8 @@ mark_keeps laws queues keepers past old new number c none idle at_rest news is_n
     let q = queues.switch old.log old.queue old.ended k.queue_follows (omega (arith, count, base, k.within)) k.numbered in
     let in_step : InStep (replicate old.cells 0) ticks past.acknowledged new.content (with_round old.ended (Newest s.newest)) (Writing s.logs) (old.queue ++ records.Switch old.ended ∷ []) =
     subst (λ n. InStep (replicate old.cells 0) ticks past.acknowledged new.content (with_round n (Newest s.newest)) (Writing s.logs) (old.queue ++ records.Switch n ∷ [])) (sym k.ended)
-    (laws.goes_on.mark (replicate old.cells 0) ticks past.acknowledged s.newest s.logs old.queue old.content new.content no_round above (c.live.after_ended ∙ ap (λ w. Ok w) same) (c.live.all ∙ sym (length-replicate old.cells 0)) d.0 s.in_step) in
+    (laws.goes_on.mark (replicate old.cells 0) ticks past.acknowledged s.newest s.logs old.queue old.content new.content no_round
+    above (c.live.after_ended ∙ ap (λ w. Ok w) same) (c.live.all ∙ sym (length-replicate old.cells 0)) d.0 s.in_step) in
     let is : IsCoreAt after next = record {
       cells = c.cells;
       live = record { last = c.live.last; after_ended = c.live.after_ended; live = c.live.live ∙ ap (λ w. Ok w) (sym d.0.live); all = ap length d.0.live ∙ c.live.all; running = c.live.running };
@@ -189,7 +214,9 @@ mark_keeps laws queues keepers past old new number c none idle at_rest news is_n
       place = c.place;
       has_images = keepers.begun old.images old.ended (Newest s.newest) old.image_a old.image_b at_rest k.numbered has;
       has_log = c.has_log;
-      in_step = subst (λ j. InStep (replicate old.cells 0) ticks past.acknowledged new.content (with_round old.ended (Newest s.newest)) j (old.queue ++ records.Switch old.ended ∷ [])) (sym s.is_writing) in_step;
+      in_step =
+          subst (λ j. InStep (replicate old.cells 0) ticks past.acknowledged new.content (with_round old.ended (Newest s.newest))
+          j (old.queue ++ records.Switch old.ended ∷ [])) (sym s.is_writing) in_step;
       at_rest = c.at_rest;
       reported = record {
         is_image_known = c.reported.is_image_known ∙ ap is_known s.is_newest;

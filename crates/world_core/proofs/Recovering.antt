@@ -45,16 +45,21 @@ module _ (safety : SafetyLaws) (first : List ℕ) (ticks : List (List Action)) (
   of_these : (Holds : Segment → Segment → Type 0) → BothRead la lb Holds → Holds a b
   of_these Holds s = subst (λ x. Holds x b) (safety.once la s.a a s.reads_a reads_a) (subst (Holds s.a) (safety.once lb s.b b s.reads_b reads_b) s.holds)
 
-  is_sound : (image_a image_b log_a log_b : List ℕ → Type 0) → IsSound image_a image_b log_a log_b first ticks acknowledged → image_a ia → image_b ib → log_a la → log_b lb → IsSoundReading (image_of ia) (image_of ib) a b first ticks acknowledged
-  is_sound image_a image_b log_a log_b safe ha hb hla hlb = of_these (λ segment_a segment_b. IsSoundReading (image_of ia) (image_of ib) segment_a segment_b first ticks acknowledged) (safe ia ib la lb ha hb hla hlb)
+  is_sound : (image_a image_b log_a log_b : List ℕ → Type 0) → IsSound image_a image_b log_a log_b first ticks acknowledged
+      → image_a ia → image_b ib → log_a la → log_b lb → IsSoundReading (image_of ia) (image_of ib) a b first ticks acknowledged
+  is_sound image_a image_b log_a log_b safe ha hb hla hlb =
+      of_these (λ segment_a segment_b. IsSoundReading (image_of ia) (image_of ib) segment_a segment_b first ticks acknowledged) (safe ia ib la lb ha hb hla hlb)
 
-  is_fresh : (image_a image_b log_a log_b : List ℕ → Type 0) → IsFresh image_a image_b log_a log_b first → image_a ia → image_b ib → log_a la → log_b lb → IsFreshReading (image_of ia) (image_of ib) a b first
+  is_fresh : (image_a image_b log_a log_b : List ℕ → Type 0) → IsFresh image_a image_b log_a log_b first → image_a ia → image_b ib
+      → log_a la → log_b lb → IsFreshReading (image_of ia) (image_of ib) a b first
   is_fresh image_a image_b log_a log_b safe ha hb hla hlb = of_these (λ segment_a segment_b. IsFreshReading (image_of ia) (image_of ib) segment_a segment_b first) (safe ia ib la lb ha hb hla hlb)
 
   -- the answer of recovery on files that are safe
-  pub restarts : (image_a image_b log_a log_b : List ℕ → Type 0) (has_image : Bool) → AreSafeFor has_image image_a image_b log_a log_b first ticks acknowledged → image_a ia → image_b ib → log_a la → log_b lb
+  pub restarts : (image_a image_b log_a log_b : List ℕ → Type 0) (has_image : Bool)
+      → AreSafeFor has_image image_a image_b log_a log_b first ticks acknowledged → image_a ia → image_b ib → log_a la → log_b lb
       → (r : Recovery) → recovery_of (image_of ia) (image_of ib) a b ≡ Ok r → Restarts first ticks acknowledged r (image_of ia) (image_of ib) a b
-  restarts image_a image_b log_a log_b true safe ha hb hla hlb r e = safety.restarts.sound first ticks acknowledged (image_of ia) (image_of ib) a b r (is_sound image_a image_b log_a log_b safe ha hb hla hlb) e
+  restarts image_a image_b log_a log_b true safe ha hb hla hlb r e =
+      safety.restarts.sound first ticks acknowledged (image_of ia) (image_of ib) a b r (is_sound image_a image_b log_a log_b safe ha hb hla hlb) e
   restarts image_a image_b log_a log_b false safe ha hb hla hlb r e =
       elim (safety.restarts.fresh first (image_of ia) (image_of ib) a b (is_fresh image_a image_b log_a log_b safe.0 ha hb hla hlb)) [
         | inl none ↦ absurd (ok_not_err r NoImage (sym e ∙ none.2))
@@ -83,9 +88,11 @@ module _ (safety : SafetyLaws) (first : List ℕ) (ticks : List (List Action)) (
       ]
 
   -- recovery of safe files is refused only because there is no image
-  only_none : (image_a image_b log_a log_b : List ℕ → Type 0) (has_image : Bool) → AreSafeFor has_image image_a image_b log_a log_b first ticks acknowledged → image_a ia → image_b ib → log_a la → log_b lb
+  only_none : (image_a image_b log_a log_b : List ℕ → Type 0) (has_image : Bool)
+      → AreSafeFor has_image image_a image_b log_a log_b first ticks acknowledged → image_a ia → image_b ib → log_a la → log_b lb
       → (refusal : Refusal) → recovery_of (image_of ia) (image_of ib) a b ≡ Err refusal → refusal ≡ NoImage
-  only_none image_a image_b log_a log_b true safe ha hb hla hlb refusal e = (let s = is_sound image_a image_b log_a log_b safe ha hb hla hlb in absurd (ok_not_err s.recovery refusal (sym s.stands ∙ e)))
+  only_none image_a image_b log_a log_b true safe ha hb hla hlb refusal e =
+      (let s = is_sound image_a image_b log_a log_b safe ha hb hla hlb in absurd (ok_not_err s.recovery refusal (sym s.stands ∙ e)))
   only_none image_a image_b log_a log_b false safe ha hb hla hlb refusal e =
       elim (safety.restarts.fresh first (image_of ia) (image_of ib) a b (is_fresh image_a image_b log_a log_b safe.0 ha hb hla hlb)) [
         | inl none ↦ err_same refusal NoImage (sym e ∙ none.2)
@@ -109,9 +116,12 @@ pub recovered_keeps : EventLaws → QueueLaws → KeeperLaws → SafetyLaws → 
     → IsCoreAt (recovered_past past r la lb) new
 recovered_keeps events queues keepers safety past old new c r ia ib la lb oa ob ola olb e numbered b =
     let ticks = past.history.ticks in
-    let s = restarts safety (replicate old.cells 0) ticks past.acknowledged ia ib la lb e.a e.b e.reads_a e.reads_b (IsCrashOutcome old.image_a.inner) (IsCrashOutcome old.image_b.inner) (IsCrashOutcome old.log_a.inner) (IsCrashOutcome old.log_b.inner) past.has_image (core_is_safe_for safety past old c) oa ob ola olb r e.holds in
+    let s = restarts safety (replicate old.cells 0) ticks past.acknowledged ia ib la lb e.a e.b e.reads_a e.reads_b
+    (IsCrashOutcome old.image_a.inner) (IsCrashOutcome old.image_b.inner) (IsCrashOutcome old.log_a.inner)
+    (IsCrashOutcome old.log_b.inner) past.has_image (core_is_safe_for safety past old c) oa ob ola olb r e.holds in
     begins_core queues keepers old.cells (Some (r.slot, r.from)) r.tick r.words (nat_lt r.from r.tick) ia ib la lb (recovered_past past r la lb) new b c.some_cells c.few_cells numbered
-    (Newest (recovered_images r (image_of ia) (image_of ib))) (refl, refl, s.newest_whole ∙ length-replicate old.cells 0, by_slot r.slot ia ib ∙ s.chosen, by_other r.slot ia ib) refl e.a e.b e.reads_a e.reads_b
+    (Newest (recovered_images r (image_of ia) (image_of ib)))
+    (refl, refl, s.newest_whole ∙ length-replicate old.cells 0, by_slot r.slot ia ib ∙ s.chosen, by_other r.slot ia ib) refl e.a e.b e.reads_a e.reads_b
     (length-take-le r.tick ticks s.world.ended) refl (s.whole ∙ length-replicate old.cells 0) s.world.words_are refl refl refl
     (events.goes_on.recovery (replicate old.cells 0) ticks past.acknowledged r (image_of ia) (image_of ib) e.a e.b new.content (some_zeros old.cells c.some_cells) s b.store)
 
@@ -135,15 +145,20 @@ pub blank_keeps : EventLaws → QueueLaws → KeeperLaws → SafetyLaws → (pas
     → Begins old.cells None 0 (replicate old.cells 0) true ia ib la lb new
     → IsCoreAt (blank_past past la lb) new
 blank_keeps events queues keepers safety past old new c ia ib la lb oa ob ola olb e b =
-    let s = blank safety (replicate old.cells 0) past.history.ticks past.acknowledged ia ib la lb e.a e.b e.reads_a e.reads_b (IsCrashOutcome old.image_a.inner) (IsCrashOutcome old.image_b.inner) (IsCrashOutcome old.log_a.inner) (IsCrashOutcome old.log_b.inner) past.has_image (core_is_safe_for safety past old c) oa ob ola olb e.holds in
+    let s = blank safety (replicate old.cells 0) past.history.ticks past.acknowledged ia ib la lb e.a e.b e.reads_a e.reads_b
+    (IsCrashOutcome old.image_a.inner) (IsCrashOutcome old.image_b.inner) (IsCrashOutcome old.log_a.inner)
+    (IsCrashOutcome old.log_b.inner) past.has_image (core_is_safe_for safety past old c) oa ob ola olb e.holds in
     begins_blank events queues keepers old.cells past new ia ib la lb c.some_cells c.few_cells s.unknown s.none_acknowledged s.image_a_closed s.image_b_closed
     (subst (IsSegment la) s.log_a_closed e.reads_a) (subst (IsSegment lb) s.log_b_closed e.reads_b) b
 
 -- recovery of the bytes that a crash left is refused only because there is no image
-pub crash_refuses : SafetyLaws → (past : Past) (old : State) (c : IsCoreAt past old) (ia ib la lb : List ℕ) → IsCrashOutcome old.image_a.inner ia → IsCrashOutcome old.image_b.inner ib → IsCrashOutcome old.log_a.inner la → IsCrashOutcome old.log_b.inner lb
+pub crash_refuses : SafetyLaws → (past : Past) (old : State) (c : IsCoreAt past old) (ia ib la lb : List ℕ)
+    → IsCrashOutcome old.image_a.inner ia → IsCrashOutcome old.image_b.inner ib → IsCrashOutcome old.log_a.inner la → IsCrashOutcome old.log_b.inner lb
     → (refusal : Refusal) → Recovers ia ib la lb (Err refusal) → refusal ≡ NoImage
 crash_refuses safety past old c ia ib la lb oa ob ola olb refusal e =
-    only_none safety (replicate old.cells 0) past.history.ticks past.acknowledged ia ib la lb e.a e.b e.reads_a e.reads_b (IsCrashOutcome old.image_a.inner) (IsCrashOutcome old.image_b.inner) (IsCrashOutcome old.log_a.inner) (IsCrashOutcome old.log_b.inner) past.has_image (core_is_safe_for safety past old c) oa ob ola olb refusal e.holds
+    only_none safety (replicate old.cells 0) past.history.ticks past.acknowledged ia ib la lb e.a e.b e.reads_a e.reads_b
+    (IsCrashOutcome old.image_a.inner) (IsCrashOutcome old.image_b.inner) (IsCrashOutcome old.log_a.inner)
+    (IsCrashOutcome old.log_b.inner) past.has_image (core_is_safe_for safety past old c) oa ob ola olb refusal e.holds
 
 -- ---- a fresh world
 
@@ -154,25 +169,31 @@ closed_image = refl
 closed_segment : IsSegment [] ClosedSegment
 closed_segment = inl (omega arith)
 
-pub begins_empty : (cells : ℕ) (words a b la lb : List ℕ) (new : State) → Begins cells None 0 words true a b la lb new → words ≡ replicate cells 0 → a ≡ [] → b ≡ [] → la ≡ [] → lb ≡ [] → BeginsFresh cells new
+pub begins_empty : (cells : ℕ) (words a b la lb : List ℕ) (new : State) → Begins cells None 0 words true a b la lb new
+    → words ≡ replicate cells 0 → a ≡ [] → b ≡ [] → la ≡ [] → lb ≡ [] → BeginsFresh cells new
 begins_empty cells words a b la lb new s ew ea eb ela elb =
     subst (λ w. Begins cells None 0 w true [] [] [] [] new) ew
-    (subst (λ f. Begins cells None 0 words true f [] [] [] new) ea (subst (λ f. Begins cells None 0 words true a f [] [] new) eb (subst (λ f. Begins cells None 0 words true a b f [] new) ela (subst (λ f. Begins cells None 0 words true a b la f new) elb s))))
+    (subst (λ f. Begins cells None 0 words true f [] [] [] new) ea
+    (subst (λ f. Begins cells None 0 words true a f [] [] new) eb (subst (λ f. Begins cells None 0 words true a b f [] new) ela (subst (λ f. Begins cells None 0 words true a b la f new) elb s))))
 
 pub fresh_core : EventLaws → QueueLaws → KeeperLaws → (cells : ℕ) (new : State) → 1 ≤ cells → cells ≤ CELLS → BeginsFresh cells new → IsCoreAt fresh_past new
 fresh_core events queues keepers cells new some few b = begins_blank events queues keepers cells fresh_past new [] [] [] [] some few refl refl closed_image closed_image closed_segment closed_segment b
 
 -- ---- a core on the files that a crash left
 
-pub stands_keeps : EventLaws → QueueLaws → KeeperLaws → SafetyLaws → (past : Past) (old new : State) (c : IsCoreAt past old) (left : Remains) → MayLeave (files_in old) left.image_a.items left.image_b.items left.log_a.items left.log_b.items
+pub stands_keeps : EventLaws → QueueLaws → KeeperLaws → SafetyLaws → (past : Past) (old new : State) (c : IsCoreAt past old)
+    (left : Remains) → MayLeave (files_in old) left.image_a.items left.image_b.items left.log_a.items left.log_b.items
     → (given : Answer) → StandsOn old.cells left.image_a.items left.image_b.items left.log_a.items left.log_b.items given new → IsCoreAt (past_after past (move.Crash left) given) new
 stands_keeps events queues keepers safety past old new c left may (answer.Recovered tick from) s =
     let k = recovered_keeps events queues keepers safety past old new c s.0 left.image_a.items left.image_b.items left.log_a.items left.log_b.items may.0 may.1 may.2 may.3 s.1 s.4 s.5 in
-    subst (λ t. IsCoreAt (past_after past (move.Crash left) (answer.Recovered t from)) new) (sym s.2) (subst (λ f. IsCoreAt (past_after past (move.Crash left) (answer.Recovered s.0.tick f)) new) (sym s.3) k)
-stands_keeps events queues keepers safety past old new c left may answer.Blank s = blank_keeps events queues keepers safety past old new c left.image_a.items left.image_b.items left.log_a.items left.log_b.items may.0 may.1 may.2 may.3 s.0 s.1
+    subst (λ t. IsCoreAt (past_after past (move.Crash left) (answer.Recovered t from)) new) (sym s.2)
+    (subst (λ f. IsCoreAt (past_after past (move.Crash left) (answer.Recovered s.0.tick f)) new) (sym s.3) k)
+stands_keeps events queues keepers safety past old new c left may answer.Blank s =
+    blank_keeps events queues keepers safety past old new c left.image_a.items left.image_b.items left.log_a.items left.log_b.items may.0 may.1 may.2 may.3 s.0 s.1
 stands_keeps events queues keepers safety past old new c left may given s = absurd s
 
-pub stands_exact : (state new : State) (cells : ℕ) (ia ib la lb : List ℕ) → MayLeave (files_in state) ia ib la lb → (given : Answer) → StandsOn cells ia ib la lb given new → IsCrashAnswer (files_in state) ia ib la lb given
+pub stands_exact : (state new : State) (cells : ℕ) (ia ib la lb : List ℕ) → MayLeave (files_in state) ia ib la lb
+    → (given : Answer) → StandsOn cells ia ib la lb given new → IsCrashAnswer (files_in state) ia ib la lb given
 stands_exact state new cells ia ib la lb may (answer.Recovered tick from) s = (may, (s.0, s.1, s.2, s.3))
 stands_exact state new cells ia ib la lb may answer.Blank s = (may, s.0)
 stands_exact state new cells ia ib la lb may given s = absurd s

@@ -98,7 +98,8 @@ pub record Stepped (asked : Move) (old : State) (given : Answer) (new : State) :
   pub does : Does asked old given new
   pub progress : Progresses asked given old new
 
-module _ (asked : Move) (idle : Answer) (most left : ℕ) (past : Past) (old : State) (reported : Answer) (now : State) (s : SoFar asked idle most left past old reported now) (given : Answer) (next : State) (step : Stepped asked now given next) where
+module _ (asked : Move) (idle : Answer) (most left : ℕ) (past : Past) (old : State) (reported : Answer) (now : State)
+    (s : SoFar asked idle most left past old reported now) (given : Answer) (next : State) (step : Stepped asked now given next) where
   one_more : Answers (past_now asked idle most left past old reported now s) now asked given next
   one_more = record { exact = step.exact (past_now asked idle most left past old reported now s) s.stands; does = step.does; progress = step.progress }
 
@@ -109,7 +110,8 @@ module _ (asked : Move) (idle : Answer) (most left : ℕ) (past : Past) (old : S
   step_ends = ends asked idle most left past old reported now s given next one_more (step.keeps (past_now asked idle most left past old reported now s) s.stands)
 
 -- the step, if it had this answer
-pub as_image : (fate : Fate) (old new : State) (result given : ImageAnswer) → Stepped (move.Image fate) old (answer.Image result) new → result ≡ given → Stepped (move.Image fate) old (answer.Image given) new
+pub as_image : (fate : Fate) (old new : State) (result given : ImageAnswer)
+    → Stepped (move.Image fate) old (answer.Image result) new → result ≡ given → Stepped (move.Image fate) old (answer.Image given) new
 as_image fate old new result given step is = subst (λ r. Stepped (move.Image fate) old (answer.Image r) new) is step
 
 pub as_log : (fate : Fate) (old new : State) (result given : LogAnswer) → Stepped (move.Log fate) old (answer.Log result) new → result ≡ given → Stepped (move.Log fate) old (answer.Log given) new

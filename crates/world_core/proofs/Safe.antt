@@ -36,7 +36,8 @@ core_is_safe laws past state c =
     let ticks = past.history.ticks in
     let first : List ℕ = replicate state.cells 0 in
     subst (λ h. AreSafe h (files_in state) first ticks past.acknowledged) (sym c.reported.is_image_known)
-    (by_known first state ticks past.acknowledged c.images (laws.safe first state ticks past.acknowledged c.images c.place (c.keeper_cells ∙ sym (length-replicate state.cells 0)) c.has_images c.has_log c.in_step))
+    (by_known first state ticks past.acknowledged c.images
+    (laws.safe first state ticks past.acknowledged c.images c.place (c.keeper_cells ∙ sym (length-replicate state.cells 0)) c.has_images c.has_log c.in_step))
 
 -- the same for any bytes that may be left of each file
 abbrev pub AreSafeFor : (has_image : Bool) → (image_a image_b log_a log_b : List ℕ → Type 0) → (first : List ℕ) → List (List Action) → (acknowledged : ℕ) → Type 0
@@ -49,7 +50,8 @@ safe_for true files first ticks acknowledged safe = safe
 safe_for false files first ticks acknowledged safe = safe
 
 pub core_is_safe_for : SafetyLaws → (past : Past) (state : State) → IsCoreAt past state
-    → AreSafeFor past.has_image (IsCrashOutcome state.image_a.inner) (IsCrashOutcome state.image_b.inner) (IsCrashOutcome state.log_a.inner) (IsCrashOutcome state.log_b.inner) (replicate state.cells 0) past.history.ticks past.acknowledged
+    → AreSafeFor past.has_image (IsCrashOutcome state.image_a.inner) (IsCrashOutcome state.image_b.inner)
+    (IsCrashOutcome state.log_a.inner) (IsCrashOutcome state.log_b.inner) (replicate state.cells 0) past.history.ticks past.acknowledged
 core_is_safe_for laws past state c = safe_for past.has_image (files_in state) (replicate state.cells 0) past.history.ticks past.acknowledged (core_is_safe laws past state c)
 
 -- ---- before there is an image
@@ -61,7 +63,8 @@ ok_words : (a b : List ℕ) → ◌≡◌ {A = Result (List ℕ) Refusal} (Ok a)
 ok_words a b e = cc
 
 -- the world after no tick
-fresh_words : (first : List ℕ) (image_a image_b : Image) (log_a log_b : Segment) (r : Recovery) → recovery_of image_a image_b log_a log_b ≡ Ok r → r.tick ≡ 0 → IsSoundReading image_a image_b log_a log_b first [] 0
+fresh_words : (first : List ℕ) (image_a image_b : Image) (log_a log_b : Segment) (r : Recovery)
+    → recovery_of image_a image_b log_a log_b ≡ Ok r → r.tick ≡ 0 → IsSoundReading image_a image_b log_a log_b first [] 0
     → r.words ≡ first
 fresh_words first image_a image_b log_a log_b r is none s =
     let same : s.recovery ≡ r = ok_recovery s.recovery r (sym s.stands ∙ is) in

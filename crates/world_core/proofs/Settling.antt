@@ -47,23 +47,27 @@ runs_last past old new asked (given ∷ front) last r = runs_last (past_after pa
 one_replica : (asked : Move) (front : List Answer) (last : Answer) → replicate (length front + 1) asked ≡ replicate (length front) asked ++ asked ∷ []
 one_replica asked front last = ap (λ n. replicate n asked) (sym (length-append front (last ∷ []))) ∙ sym (replicate_more asked front last)
 
-last_of : (asked : Move) (idle : Answer) (most : ℕ) (past : Past) (old : State) (reported : Answer) (next : Past) (new : State) (r : Repeats asked idle most past old reported next new) → LastOf past old asked r.all.front r.all.last next new
+last_of : (asked : Move) (idle : Answer) (most : ℕ) (past : Past) (old : State) (reported : Answer) (next : Past) (new : State)
+    (r : Repeats asked idle most past old reported next new) → LastOf past old asked r.all.front r.all.last next new
 last_of asked idle most past old reported next new r =
     let a = r.all in
     let moves : r.moves ≡ replicate (length a.front) asked ++ asked ∷ [] = a.moves_are ∙ one_replica asked a.front a.last in
-    let runs : Runs past old (replicate (length a.front) asked ++ asked ∷ []) (a.front ++ a.last ∷ []) new = subst (λ m. Runs past old m (a.front ++ a.last ∷ []) new) moves (subst (λ l. Runs past old r.moves l new) a.answers_are r.on.runs) in
+    let runs : Runs past old (replicate (length a.front) asked ++ asked ∷ []) (a.front ++ a.last ∷ []) new = subst
+    (λ m. Runs past old m (a.front ++ a.last ∷ []) new) moves (subst (λ l. Runs past old r.moves l new) a.answers_are r.on.runs) in
     let l = runs_last past old new asked a.front a.last runs in
     record {
       mid_past = past_of past (replicate (length a.front) asked) a.front;
       mid = l.0;
       mid_is = refl;
       one = l.1;
-      next_is = r.on.next_is ∙ (λ i. past_of past (moves i) (a.answers_are i)) ∙ past_of-more past (replicate (length a.front) asked) a.front asked a.last (sym (length-replicate (length a.front) asked));
+      next_is =
+          r.on.next_is ∙ (λ i. past_of past (moves i) (a.answers_are i)) ∙ past_of-more past (replicate (length a.front) asked) a.front asked a.last (sym (length-replicate (length a.front) asked));
     }
 
 -- ---- the image keeper
 
-images_end : (fate : Fate) (last reported result : Answer) (past : Past) (old new : State) → IsReportedAtEnd last reported result → Answers past old (move.Image fate) last new → ImagesSettled (past_after past (move.Image fate) last).standing
+images_end : (fate : Fate) (last reported result : Answer) (past : Past) (old new : State) → IsReportedAtEnd last reported result
+    → Answers past old (move.Image fate) last new → ImagesSettled (past_after past (move.Image fate) last).standing
 images_end fate (answer.Image image_answer.Idle) reported result past old new is a = inl a.exact
 images_end fate (answer.Image image_answer.Down) reported result past old new is a = inr refl
 images_end fate (answer.Log log_answer.Idle) reported result past old new is a = absurd a.exact
@@ -73,12 +77,14 @@ images_end fate last reported result past old new is a = absurd is
 pub images_settle : (fate : Fate) (past : Past) (old : State) (reported : ImageAnswer) (next : Past) (new : State) → RepeatsImages fate past old reported next new → ImagesSettled next.standing
 images_settle fate past old reported next new r =
     let l = last_of (move.Image fate) (answer.Image image_answer.Idle) (left_of old.images) past old (answer.Image reported) next new r in
-    subst (λ (p : Past). ImagesSettled p.standing) (sym l.next_is) (images_end fate r.all.last (reported_of (answer.Image image_answer.Idle) r.all.front) (answer.Image reported) l.mid_past l.mid new r.all.reported l.one)
+    subst (λ (p : Past). ImagesSettled p.standing) (sym l.next_is)
+    (images_end fate r.all.last (reported_of (answer.Image image_answer.Idle) r.all.front) (answer.Image reported) l.mid_past l.mid new r.all.reported l.one)
 
 -- ---- the log keeper
 
 -- a log keeper that isn't down and has no work isn't in a start
-no_start : (keeper : Progress) (queue : List Record) (journal : Journal) (left : ℕ) (standing : Standing) (state : State) → state.log ≡ keeper → HasLog state (record { journal = journal; left = left }) → standing.start_left ≡ left → keeper.down ≡ false → work_of keeper queue ≡ 0 → is_starting standing ≡ false
+no_start : (keeper : Progress) (queue : List Record) (journal : Journal) (left : ℕ) (standing : Standing) (state : State)
+    → state.log ≡ keeper → HasLog state (record { journal = journal; left = left }) → standing.start_left ≡ left → keeper.down ≡ false → work_of keeper queue ≡ 0 → is_starting standing ≡ false
 no_start keeper queue (InStart start) left standing state is stands e up none =
     let rest : left ≡ rest_of state.log = stands.left_is (ap (λ (k : Progress). k.down) is ∙ up) in
     let same : rest_of state.log ≡ rest_of keeper = ap rest_of is in
@@ -91,13 +97,15 @@ idle_work fate old new d =
     let same = d.rests (inl refl) in
     no_work new.log new.queue (ap (λ (k : Progress). k.phase) same.0 ∙ i.1) (same.1 ∙ i.2)
 
-no_work_after : (fate : Fate) (past : Past) (old new : State) → IsLogAnswer past old log_answer.Idle → (Waits old × (log_answer.Idle ≡ log_answer.Idle) × (new ≡ old)) ⊎ StepsLogKeeper fate old log_answer.Idle new
+no_work_after : (fate : Fate) (past : Past) (old new : State) → IsLogAnswer past old log_answer.Idle
+    → (Waits old × (log_answer.Idle ≡ log_answer.Idle) × (new ≡ old)) ⊎ StepsLogKeeper fate old log_answer.Idle new
     → (is_log_waiting past.standing ≡ true) ⊎ ((past.standing.is_log_down ≡ false) × (work_of new.log new.queue ≡ 0))
 no_work_after fate past old new (inl waits) does = inl waits
 no_work_after fate past old new (inr done) (inl same) = inr (done.0, ap (λ (s : State). work_of s.log s.queue) same.2 ∙ done.1)
 no_work_after fate past old new (inr done) (inr d) = inr (done.0, idle_work fate old new d)
 
-log_settled : (standing : Standing) (past : Past) (state : State) → IsCoreAt past state → past.standing ≡ standing → (is_log_waiting standing ≡ true) ⊎ ((standing.is_log_down ≡ false) × (work_of state.log state.queue ≡ 0)) → LogSettled standing state
+log_settled : (standing : Standing) (past : Past) (state : State) → IsCoreAt past state → past.standing ≡ standing
+    → (is_log_waiting standing ≡ true) ⊎ ((standing.is_log_down ≡ false) × (work_of state.log state.queue ≡ 0)) → LogSettled standing state
 log_settled standing past state c is (inl waits) = inr (inl waits)
 log_settled standing past state c is (inr done) =
     inr (inr (
@@ -106,10 +114,12 @@ log_settled standing past state c is (inr done) =
           (sym c.reported.log_down ∙ ap (λ (s : Standing). s.is_log_down) is ∙ done.0) done.1,
     ))
 
-log_idle_after : (fate : Fate) (past : Past) (old new : State) → IsCoreAt (past_after past (move.Log fate) (answer.Log log_answer.Idle)) new → Answers past old (move.Log fate) (answer.Log log_answer.Idle) new → LogSettled past.standing new
+log_idle_after : (fate : Fate) (past : Past) (old new : State)
+    → IsCoreAt (past_after past (move.Log fate) (answer.Log log_answer.Idle)) new → Answers past old (move.Log fate) (answer.Log log_answer.Idle) new → LogSettled past.standing new
 log_idle_after fate past old new c a = log_settled past.standing (past_after past (move.Log fate) (answer.Log log_answer.Idle)) new c refl (no_work_after fate past old new a.exact a.does)
 
-log_end : (fate : Fate) (last reported result : Answer) (past : Past) (old new : State) → IsCoreAt (past_after past (move.Log fate) last) new → IsReportedAtEnd last reported result → Answers past old (move.Log fate) last new
+log_end : (fate : Fate) (last reported result : Answer) (past : Past) (old new : State)
+    → IsCoreAt (past_after past (move.Log fate) last) new → IsReportedAtEnd last reported result → Answers past old (move.Log fate) last new
     → LogSettled (past_after past (move.Log fate) last).standing new
 log_end fate (answer.Log log_answer.Idle) reported result past old new c is a = log_idle_after fate past old new c a
 log_end fate (answer.Log log_answer.Down) reported result past old new c is a = inl refl
@@ -164,7 +174,8 @@ still_settled : (new old : Standing) → IsSameImage new old → ImagesSettled o
 still_settled new old same (inl none) = inl (same.round ∙ none)
 still_settled new old same (inr down) = inr (same.down ∙ down)
 
-pub start_settles : (image_reported : ImageAnswer) (log_reported : LogAnswer) (past mid_past next : Past) (old mid new : State) → RepeatsImages Done past old image_reported mid_past mid → RepeatsLog Done mid_past mid log_reported next new → StartSettled next.standing
+pub start_settles : (image_reported : ImageAnswer) (log_reported : LogAnswer) (past mid_past next : Past) (old mid new : State)
+    → RepeatsImages Done past old image_reported mid_past mid → RepeatsLog Done mid_past mid log_reported next new → StartSettled next.standing
 start_settles image_reported log_reported past mid_past next old mid new images log =
     start_ended next.standing new
     (still_settled next.standing mid_past.standing (log_same Done mid_past mid log_reported next new log) (images_settle Done past old image_reported mid_past mid images))

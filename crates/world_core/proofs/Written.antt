@@ -1,5 +1,6 @@
 -- No crash leaves an empty file of a core, from the start's end and from the first ticks on.
-use Rattle.std.proofs.Common.{◌≡◌, ℕ, ◌+◌, ◌<◌, ◌≤◌, ◌⊎◌, inl, inr, Bool, true, false, not, IsTrue, List, [], ◌∷◌, ◌++◌, length, take, replicate, Option, Some, None, Ok, refl, sym, ap, subst, ◌∙◌, arith}
+use Rattle.std.proofs.Common.{◌≡◌, ℕ, ◌+◌, ◌<◌, ◌≤◌, ◌⊎◌, inl, inr, Bool, true, false, not, IsTrue, List, [], ◌∷◌, ◌++◌, length}
+use Rattle.std.proofs.Common.{take, replicate, Option, Some, None, Ok, refl, sym, ap, subst, ◌∙◌, arith}
 use Rattle.std.proofs.lemmas.List.{length-append, length-take-le, length-take}
 use Rattle.world_actions.specs.declared.action.Action.{Action}
 use Rattle.file_format.specs.declared.slot.Slot.{Slot}
@@ -105,7 +106,8 @@ by_slot B a new_a b new_b k = (k.1, k.0)
 -- ---- a step of a keeper
 
 module _ (fate : Fate) where
-  image_calls_keep : (phase : ImagePhase) (target new_target newest new_newest : File) → ImageCallsIn phase (CallsBy fate) target new_target newest new_newest → Keeps target new_target × Keeps newest new_newest
+  image_calls_keep : (phase : ImagePhase) (target new_target newest new_newest : File)
+      → ImageCallsIn phase (CallsBy fate) target new_target newest new_newest → Keeps target new_target × Keeps newest new_newest
   image_calls_keep image_phase.Idle target new_target newest new_newest c = (same_keeps target new_target c.0, same_keeps newest new_newest c.1)
   image_calls_keep image_phase.Taking target new_target newest new_newest c = (same_keeps target new_target c.0, same_keeps newest new_newest c.1)
   image_calls_keep image_phase.Down target new_target newest new_newest c = (same_keeps target new_target c.0, same_keeps newest new_newest c.1)
@@ -116,9 +118,11 @@ module _ (fate : Fate) where
   image_step_keeps old given new s =
       let slot = target_of old.images.newest in
       by_slot slot old.image_a new.image_a old.image_b new.image_b
-      (image_calls_keep old.images.phase (of_slot slot old.image_a old.image_b) (of_slot slot new.image_a new.image_b) (of_slot slot old.image_b old.image_a) (of_slot slot new.image_b new.image_a) s.calls)
+      (image_calls_keep old.images.phase (of_slot slot old.image_a old.image_b) (of_slot slot new.image_a new.image_b)
+      (of_slot slot old.image_b old.image_a) (of_slot slot new.image_b new.image_a) s.calls)
 
-  log_calls_keep : (phase : Phase) (queue : List Record) (current new_current other new_other : File) → LogCallsIn (CallsBy fate) current new_current other new_other phase queue → Keeps current new_current × Keeps other new_other
+  log_calls_keep : (phase : Phase) (queue : List Record) (current new_current other new_other : File)
+      → LogCallsIn (CallsBy fate) current new_current other new_other phase queue → Keeps current new_current × Keeps other new_other
   log_calls_keep Ready [] current new_current other new_other c = (same_keeps current new_current c.0, same_keeps other new_other c.1)
   log_calls_keep Ready (records.Tick tick ∷ queue) current new_current other new_other c = (once_keeps fate current new_current c.0, same_keeps other new_other c.1)
   log_calls_keep Ready (records.Switch tick ∷ queue) current new_current other new_other c = (same_keeps current new_current c.0, once_keeps fate other new_other c.1)
@@ -196,7 +200,8 @@ retired_written phase current starting down base written log_a log_b last is_b i
     (subst (λ p. CurrentOutcomes p base written (of_slot current log_a.content log_b.content) (in_slot current (IsCrashOutcome log_a) (IsCrashOutcome log_b))) last outcomes) in
     subst (λ b. 0 < length b) (sym (only log_b.durable (durable_stays log_b))) shut.0
 
-ends_closed : (state : State) (start : Start) (left : ℕ) → HasLog state (record { journal = InStart start; left = left }) → state.log.down ≡ false → state.log.starting ≡ true → left ≡ 1 → IsWritten state.log_b.inner
+ends_closed : (state : State) (start : Start) (left : ℕ) → HasLog state (record { journal = InStart start; left = left })
+    → state.log.down ≡ false → state.log.starting ≡ true → left ≡ 1 → IsWritten state.log_b.inner
 ends_closed state start left h up in_start one =
     let keeper = state.log in
     let last = last_phase keeper.phase keeper.other_shut (sym (h.left_is up) ∙ one) (subst (λ s. IsTrue (is_of_start keeper.phase s)) in_start h.holds.in_order.of_start) in
@@ -207,7 +212,8 @@ not_both : (b : Bool) → b ≡ true → b ≡ false → ⊥
 not_both b is isnt = absurd (let e : true ≡ false = sym is ∙ isnt in cc)
 
 -- a keeper that is down stays in its start
-was_up : (fate : Fate) (down : Bool) (old : State) (given : LogAnswer) (new : State) → old.log.down ≡ down → StepsLogKeeper fate old given new → old.log.starting ≡ true → new.log.starting ≡ false → old.log.down ≡ false
+was_up : (fate : Fate) (down : Bool) (old : State) (given : LogAnswer) (new : State) → old.log.down ≡ down
+    → StepsLogKeeper fate old given new → old.log.starting ≡ true → new.log.starting ≡ false → old.log.down ≡ false
 was_up fate false old given new e s was is = e
 was_up fate true old given new e s was is = absurd (not_both new.log.starting (ap (λ (k : LogProgress). k.starting) (s.rests (inr e)).0 ∙ was) is)
 
@@ -228,7 +234,8 @@ start_ends outcomes fate old new (InStart start) left log_given.Working next s h
       (a, (log_step_keeps fate old log_given.Working new s).1 (ends_closed old start left had (was_up fate old.log.down old log_given.Working new refl s was is) was last.0)))
 ]
 
-log_ends : OutcomeLaws → (fate : Fate) (old new : State) (place : LogPlace) (given : LogAnswer) → HasLog old place → StepsLogKeeper fate old given new → old.log.starting ≡ true → new.log.starting ≡ false
+log_ends : OutcomeLaws → (fate : Fate) (old new : State) (place : LogPlace) (given : LogAnswer) → HasLog old place
+    → StepsLogKeeper fate old given new → old.log.starting ≡ true → new.log.starting ≡ false
     → IsWritten new.log_a.inner × IsWritten new.log_b.inner
 log_ends outcomes fate old new place given has s was is =
     let next = s.stands place has in
@@ -248,12 +255,14 @@ newest_same cells images (image_given.Opened tick) next old new s = inr (s.0, s.
 newest_same cells images image_given.Down next old new s = inl (ap newest_in s.2)
 
 -- the first image is of tick 0
-first_tick : (first : List ℕ) (ticks : List (List Action)) (acknowledged : ℕ) (images : FirstImages) (journal : Journal) (queue : List Record) (round : Round) → HasPhase first ticks acknowledged (NoneYet images) journal queue → images.round ≡ Some round → round.tick ≡ 0
+first_tick : (first : List ℕ) (ticks : List (List Action)) (acknowledged : ℕ) (images : FirstImages) (journal : Journal)
+    (queue : List Record) (round : Round) → HasPhase first ticks acknowledged (NoneYet images) journal queue → images.round ≡ Some round → round.tick ≡ 0
 first_tick first ticks acknowledged images (InStart start) queue round h some = (let begins = subst (IsFirstRound first) some h.0.follows.round in begins.0)
 first_tick first ticks acknowledged images (Writing logs) queue round h some = absurd h
 
 -- a round that ends leaves two images that are written, except the first one
-opened_written : OutcomeLaws → (past : Past) (old new : State) (images : ImageFiles) (journal : Journal) (round : Round) → HasPhase (replicate old.cells 0) past.history.ticks past.acknowledged images journal old.queue → round_in images ≡ Some round
+opened_written : OutcomeLaws → (past : Past) (old new : State) (images : ImageFiles) (journal : Journal) (round : Round)
+    → HasPhase (replicate old.cells 0) past.history.ticks past.acknowledged images journal old.queue → round_in images ≡ Some round
     → HasImages new (with_opened round images) → 0 < newest_tick (newest_in (with_opened round images)) → IsWritten new.image_a.inner × IsWritten new.image_b.inner
 opened_written outcomes past old new (NoneYet images) journal round phase some has after_first =
     absurd (omega (arith, after_first, first_tick (replicate old.cells 0) past.history.ticks past.acknowledged images journal old.queue round phase some))
@@ -261,7 +270,8 @@ opened_written outcomes past old new (Newest images) journal round phase some ha
     let left = outcomes.images new.images (with_opened round (Newest images)) new.image_a new.image_b has in
     both_open (other_slot images.slot) new.image_a.inner new.image_b.inner round.tick images.tick round.taken images.words left.newest left.target
 
-image_step_written : KeeperLaws → OutcomeLaws → (past : Past) (fate : Fate) (old : State) (given : ImageAnswer) (new : State) → IsCoreAt past old → StepsImageKeeper fate old given new → AreWritten past old
+image_step_written : KeeperLaws → OutcomeLaws → (past : Past) (fate : Fate) (old : State) (given : ImageAnswer) (new : State)
+    → IsCoreAt past old → StepsImageKeeper fate old given new → AreWritten past old
     → 0 < newest_tick new.images.newest → IsWritten new.image_a.inner × IsWritten new.image_b.inner
 image_step_written keepers outcomes past fate old given new c s w after_first =
     let next = s.stands c.images c.has_images in
@@ -281,7 +291,8 @@ image_step_written keepers outcomes past fate old given new c s w after_first =
 -- ---- a tick's end
 
 -- a record is queued only after the start
-queued_by : (past : Past) (state : State) (images : ImageFiles) (journal : Journal) (left : ℕ) → HasPhase (replicate state.cells 0) past.history.ticks past.acknowledged images journal state.queue → HasLog state (record { journal = journal; left = left })
+queued_by : (past : Past) (state : State) (images : ImageFiles) (journal : Journal) (left : ℕ)
+    → HasPhase (replicate state.cells 0) past.history.ticks past.acknowledged images journal state.queue → HasLog state (record { journal = journal; left = left })
     → 0 < length state.queue → state.log.starting ≡ false
 queued_by past state (NoneYet images) (InStart start) left h has some = absurd (omega (arith, some, ap length h.1))
 queued_by past state (Newest images) (InStart start) left h has some = absurd (omega (arith, some, ap length h.1))
@@ -311,7 +322,9 @@ still_written : (past next : Past) (old new : State) → next.history.ticks ≡ 
 still_written past next old new ticks log newest log_a log_b image_a image_b w = record {
   started = λ is. (let both = w.started (ap (λ (k : LogProgress). k.starting) (sym log) ∙ is) in (same_keeps old.log_a new.log_a log_a both.0, same_keeps old.log_b new.log_b log_b both.1));
   ticked = λ some. (let both = w.ticked (subst (λ (t : List (List Action)). 0 < length t) ticks some) in (same_keeps old.log_a new.log_a log_a both.0, same_keeps old.log_b new.log_b log_b both.1));
-  imaged = λ after_first. (let both = w.imaged (subst (λ n. 0 < newest_tick n) newest after_first) in (same_keeps old.image_a new.image_a image_a both.0, same_keeps old.image_b new.image_b image_b both.1));
+  imaged =
+      λ after_first.
+      (let both = w.imaged (subst (λ n. 0 < newest_tick n) newest after_first) in (same_keeps old.image_a new.image_a image_a both.0, same_keeps old.image_b new.image_b image_b both.1));
 }
 
 same_written : (past next : Past) (old new : State) → next.history.ticks ≡ past.history.ticks → new ≡ old → AreWritten past old → AreWritten next new
@@ -319,7 +332,8 @@ same_written past next old new ticks is w =
     still_written past next old new ticks (ap (λ (s : State). s.log) is) (ap (λ (s : State). s.images.newest) is) (ap (λ (s : State). s.log_a) is) (ap (λ (s : State). s.log_b) is)
     (ap (λ (s : State). s.image_a) is) (ap (λ (s : State). s.image_b) is) w
 
-image_written : KeeperLaws → OutcomeLaws → (past next : Past) (fate : Fate) (old : State) (given : ImageAnswer) (new : State) → next.history.ticks ≡ past.history.ticks → IsCoreAt past old → StepsImageKeeper fate old given new
+image_written : KeeperLaws → OutcomeLaws → (past next : Past) (fate : Fate) (old : State) (given : ImageAnswer) (new : State)
+    → next.history.ticks ≡ past.history.ticks → IsCoreAt past old → StepsImageKeeper fate old given new
     → AreWritten past old → AreWritten next new
 image_written keepers outcomes past next fate old given new ticks c s w =
     let log_a = same_keeps old.log_a new.log_a (ap (λ (s : State). s.log_a) s.rest) in
@@ -335,7 +349,8 @@ log_started : OutcomeLaws → (past : Past) (fate : Fate) (old : State) (given :
 log_started outcomes past fate old given new c s w true was is = log_ends outcomes fate old new c.place given c.has_log s was is
 log_started outcomes past fate old given new c s w false was is = (let both = w.started was in let keeps = log_step_keeps fate old given new s in (keeps.0 both.0, keeps.1 both.1))
 
-log_written : OutcomeLaws → (past next : Past) (fate : Fate) (old : State) (given : LogAnswer) (new : State) → next.history.ticks ≡ past.history.ticks → IsCoreAt past old → StepsLogKeeper fate old given new
+log_written : OutcomeLaws → (past next : Past) (fate : Fate) (old : State) (given : LogAnswer) (new : State)
+    → next.history.ticks ≡ past.history.ticks → IsCoreAt past old → StepsLogKeeper fate old given new
     → AreWritten past old → AreWritten next new
 log_written outcomes past next fate old given new ticks c s w =
     let keeps = log_step_keeps fate old given new s in
@@ -378,7 +393,8 @@ open_tick : (tick from : ℕ) (words older : List ℕ) → Open tick words ≡ O
 open_tick tick from words older e = cc
 
 -- if recovery takes the newest image, its tick is that image's; else the other file is open
-taken_or_open : (newest beside : List ℕ) (tick from : ℕ) (words older : List ℕ) → image_of newest ≡ Open tick words → (image_of newest ≡ Open from older) ⊎ (image_of beside ≡ Open from older) → (tick ≡ from) ⊎ (0 < length beside)
+taken_or_open : (newest beside : List ℕ) (tick from : ℕ) (words older : List ℕ) → image_of newest ≡ Open tick words
+    → (image_of newest ≡ Open from older) ⊎ (image_of beside ≡ Open from older) → (tick ≡ from) ⊎ (0 < length beside)
 taken_or_open newest beside tick from words older reads (inl is) = inl (open_tick tick from words older (sym reads ∙ is))
 taken_or_open newest beside tick from words older reads (inr is) = inr (nonempty_image beside from older is)
 
@@ -386,17 +402,27 @@ beside_left : (file : FileState) (tick from : ℕ) (left : List ℕ) → IsCrash
 beside_left file tick from left o written some (inl same) = outcome_written file left (written (omega (arith, same, some))) o
 beside_left file tick from left o written some (inr there) = there
 
-images_left : (slot : Slot) (a b : FileState) (tick from : ℕ) (words older ia ib : List ℕ) (chosen : Slot) → ((left : List ℕ) → in_slot slot (IsCrashOutcome a) (IsCrashOutcome b) left → image_of left ≡ Open tick words)
+images_left : (slot : Slot) (a b : FileState) (tick from : ℕ) (words older ia ib : List ℕ) (chosen : Slot)
+    → ((left : List ℕ) → in_slot slot (IsCrashOutcome a) (IsCrashOutcome b) left → image_of left ≡ Open tick words)
     → (0 < tick → IsWritten a × IsWritten b) → IsCrashOutcome a ia → IsCrashOutcome b ib → of_slot chosen (image_of ia) (image_of ib) ≡ Open from older → 0 < from → (0 < length ia) × (0 < length ib)
-images_left A a b tick from words older ia ib chosen newest written oa ob is some =
-    (nonempty_image ia tick words (newest ia oa), beside_left b tick from ib ob (λ t. (written t).1) some (taken_or_open ia ib tick from words older (newest ia oa) (beside_or chosen A (image_of ia) (image_of ib) (Open from older) is)))
-images_left B a b tick from words older ia ib chosen newest written oa ob is some =
-    (beside_left a tick from ia oa (λ t. (written t).0) some (taken_or_open ib ia tick from words older (newest ib ob) (beside_or chosen B (image_of ia) (image_of ib) (Open from older) is)), nonempty_image ib tick words (newest ib ob))
+images_left A a b tick from words older ia ib chosen newest written oa ob is some = (
+  nonempty_image ia tick words (newest ia oa),
+  beside_left b tick from ib ob
+      (λ t. (written t).1) some (taken_or_open ia ib tick from words older (newest ia oa) (beside_or chosen A (image_of ia) (image_of ib) (Open from older) is)),
+)
+images_left B a b tick from words older ia ib chosen newest written oa ob is some = (
+  beside_left a tick from ia oa (λ t. (written t).0) some
+      (taken_or_open ib ia tick from words older (newest ib ob) (beside_or chosen B (image_of ia) (image_of ib) (Open from older) is)),
+  nonempty_image ib tick words (newest ib ob),
+)
 
-images_left_by : KeeperLaws → OutcomeLaws → (past : Past) (state : State) (images : ImageFiles) (journal : Journal) → HasImages state images → HasPhase (replicate state.cells 0) past.history.ticks past.acknowledged images journal state.queue → AreWritten past state
-    → (r : Recovery) (ia ib : List ℕ) (la lb : Segment) → IsBuilt r (image_of ia) (image_of ib) la lb → r.tick ≤ length past.history.ticks → IsCrashOutcome state.image_a.inner ia → IsCrashOutcome state.image_b.inner ib
+images_left_by : KeeperLaws → OutcomeLaws → (past : Past) (state : State) (images : ImageFiles) (journal : Journal)
+    → HasImages state images → HasPhase (replicate state.cells 0) past.history.ticks past.acknowledged images journal state.queue → AreWritten past state
+    → (r : Recovery) (ia ib : List ℕ) (la lb : Segment) → IsBuilt r (image_of ia) (image_of ib) la lb
+    → r.tick ≤ length past.history.ticks → IsCrashOutcome state.image_a.inner ia → IsCrashOutcome state.image_b.inner ib
     → 0 < r.from → (0 < length ia) × (0 < length ib)
-images_left_by keepers outcomes past state (NoneYet images) (InStart start) has phase w r ia ib la lb built within oa ob some = absurd (omega (arith, some, within, built.ends, ap length phase.0.no_ticks))
+images_left_by keepers outcomes past state (NoneYet images) (InStart start) has phase w r ia ib la lb built within oa ob some =
+    absurd (omega (arith, some, within, built.ends, ap length phase.0.no_ticks))
 images_left_by keepers outcomes past state (NoneYet images) (Writing logs) has phase w r ia ib la lb built within oa ob some = absurd phase
 images_left_by keepers outcomes past state (Newest images) journal has phase w r ia ib la lb built within oa ob some =
     let left = outcomes.images state.images (Newest images) state.image_a state.image_b has in
@@ -406,7 +432,8 @@ images_left_by keepers outcomes past state (Newest images) journal has phase w r
 
 pub none_is_empty : KeeperLaws → OutcomeLaws → SafetyLaws → (past : Past) (state : State) → IsCoreAt past state → AreWritten past state → NoneIsEmpty (files_in state)
 none_is_empty keepers outcomes safety past state c w ia ib la lb r may e =
-    let again = restarts safety (replicate state.cells 0) past.history.ticks past.acknowledged ia ib la lb e.a e.b e.reads_a e.reads_b (IsCrashOutcome state.image_a.inner) (IsCrashOutcome state.image_b.inner) (IsCrashOutcome state.log_a.inner) (IsCrashOutcome state.log_b.inner)
+    let again = restarts safety (replicate state.cells 0) past.history.ticks past.acknowledged ia ib la lb e.a e.b e.reads_a
+    e.reads_b (IsCrashOutcome state.image_a.inner) (IsCrashOutcome state.image_b.inner) (IsCrashOutcome state.log_a.inner) (IsCrashOutcome state.log_b.inner)
     past.has_image (core_is_safe_for safety past state c) may.0 may.1 may.2 may.3 r e.holds in
     let built = safety.restarts.built (image_of ia) (image_of ib) e.a e.b r e.holds in (
       λ some. (

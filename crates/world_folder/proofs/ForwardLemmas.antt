@@ -41,7 +41,8 @@ module _ (file : ℕ → List ℕ) where
     pub copied : IsCopied file (place + length xs) later rest
 
   -- bytes that the file has there from a moment on are copied
-  begins : (xs : List ℕ) (place moment : ℕ) (copy : List ℕ) → ((m : ℕ) → moment ≤ m → (rest : List ℕ) × (drop place (file m) ≡ xs ++ rest)) → IsCopied file place moment copy → Begins xs place moment copy
+  begins : (xs : List ℕ) (place moment : ℕ) (copy : List ℕ)
+      → ((m : ℕ) → moment ≤ m → (rest : List ℕ) × (drop place (file m) ≡ xs ++ rest)) → IsCopied file place moment copy → Begins xs place moment copy
   begins [] place moment copy has copied =
       let here : place ≡ place + 0 = omega arith in
       record {
@@ -105,7 +106,9 @@ module _ (file : ℕ → List ℕ) (base : ℕ) (ticks : ℕ → List Tick) (gro
   -- after some of its groups it has the others
   behind_groups : (m : ℕ) (groups more : List (List Tick)) → groups_at m ≡ groups ++ more → drop (length (front groups)) (file m) ≡ flat_map group_bytes more ++ rest_at m
   behind_groups m groups more is =
-      ap (drop (length (front groups))) (file_is m ∙ ap (λ (l : List (List Tick)). front l ++ rest_at m) is ∙ ap (λ (l : List ℕ). l ++ rest_at m) (front_more groups more) ∙ append_assoc (front groups) (flat_map group_bytes more) (rest_at m))
+      ap (drop (length (front groups)))
+      (file_is m ∙ ap (λ (l : List (List Tick)). front l ++ rest_at m) is ∙ ap (λ (l : List ℕ). l ++ rest_at m)
+      (front_more groups more) ∙ append_assoc (front groups) (flat_map group_bytes more) (rest_at m))
       ∙ drop_at (front groups) (flat_map group_bytes more ++ rest_at m) (length (front groups)) refl
 
   -- a copy from the gate after some groups reads as the segment at a moment
@@ -143,7 +146,8 @@ module _ (file : ℕ → List ℕ) (base : ℕ) (ticks : ℕ → List Tick) (gro
   FindsUpTo most = (groups : List (List Tick)) (moment : ℕ) (copy : List ℕ) → length copy ≤ most → HasFrom groups moment → IsCopied file (length (front groups)) moment copy → Found groups moment copy
 
   -- a gate was read, and these groups lie after the front then
-  at_gate : (most : ℕ) → FindsUpTo most → (groups : List (List Tick)) (moment byte : ℕ) (copy : List ℕ) → length copy ≤ most → (copied : IsCopied file (length (front groups)) moment (byte ∷ copy)) → (more : List (List Tick)) → groups_at copied.0 ≡ groups ++ more → Found groups moment (byte ∷ copy)
+  at_gate : (most : ℕ) → FindsUpTo most → (groups : List (List Tick)) (moment byte : ℕ) (copy : List ℕ) → length copy ≤ most
+      → (copied : IsCopied file (length (front groups)) moment (byte ∷ copy)) → (more : List (List Tick)) → groups_at copied.0 ≡ groups ++ more → Found groups moment (byte ∷ copy)
   at_gate most finds groups moment byte copy few copied [] all = record {
     at = copied.0;
     after = copied.1;
@@ -157,7 +161,9 @@ module _ (file : ℕ → List ℕ) (base : ℕ) (ticks : ℕ → List Tick) (gro
   at_gate most finds groups moment byte copy few copied (group ∷ more) all =
       let read = copied.0 in
       let has : HasFrom (groups ++ group ∷ []) read =
-      λ m le. (let on = grows.more read m le in (more ++ on.0, on.1 ∙ ap (λ (l : List (List Tick)). l ++ on.0) (all ∙ sym (append_assoc groups (group ∷ []) more)) ∙ append_assoc (groups ++ group ∷ []) more on.0)) in
+      λ m le.
+      (let on = grows.more read m le in
+      (more ++ on.0, on.1 ∙ ap (λ (l : List (List Tick)). l ++ on.0) (all ∙ sym (append_assoc groups (group ∷ []) more)) ∙ append_assoc (groups ++ group ∷ []) more on.0)) in
       let body = begins file (group_bytes group) (length (front groups)) read (byte ∷ copy)
       (λ m le. (let on = has m le in (
         flat_map group_bytes on.0 ++ rest_at m,
@@ -165,7 +171,8 @@ module _ (file : ℕ → List ℕ) (base : ℕ) (ticks : ℕ → List Tick) (gro
       )))
       (read, le_refl read, copied.2, copied.3) in
       let one : length (front (groups ++ group ∷ [])) ≡ length (front groups) + length (group_bytes group) =
-      ap length (front_more groups (group ∷ [])) ∙ length-append (front groups) (flat_map group_bytes (group ∷ [])) ∙ ap (λ (l : List ℕ). length (front groups) + length l) (append-nil (group_bytes group)) in
+      ap length (front_more groups (group ∷ [])) ∙ length-append (front groups) (flat_map group_bytes (group ∷ [])) ∙ ap
+      (λ (l : List ℕ). length (front groups) + length l) (append-nil (group_bytes group)) in
       let next = finds (groups ++ group ∷ []) body.later body.rest (omega (arith, few, ap length body.is, length-append (group_bytes group) body.rest))
       (λ m le. has m (le_trans body.after le))
       (subst (λ (n : ℕ). IsCopied file n body.later body.rest) (sym one) body.copied) in
@@ -215,11 +222,13 @@ module _ (file : ℕ → List ℕ) (base : ℕ) (ticks : ℕ → List Tick) (gro
       let head = begins file (front here) 0 began copy
       (λ m le. let on = grows.more began m le in (
         flat_map group_bytes on.0 ++ rest_at m,
-        file_is m ∙ ap (λ (l : List (List Tick)). front l ++ rest_at m) on.1 ∙ ap (λ (l : List ℕ). l ++ rest_at m) (front_more here on.0) ∙ append_assoc (front here) (flat_map group_bytes on.0) (rest_at m),
+        file_is m ∙ ap (λ (l : List (List Tick)). front l ++ rest_at m) on.1 ∙ ap (λ (l : List ℕ). l ++ rest_at m)
+            (front_more here on.0) ∙ append_assoc (front here) (flat_map group_bytes on.0) (rest_at m),
       ))
       copied in
       let start : 0 + length (front here) ≡ length (front here) = omega arith in
-      let found = from_gate (length head.rest) here head.later head.rest (le_refl (length head.rest)) (λ m le. grows.more began m (le_trans head.after le)) (subst (λ (n : ℕ). IsCopied file n head.later head.rest) start head.copied) in
+      let found = from_gate (length head.rest) here head.later head.rest (le_refl (length head.rest))
+      (λ m le. grows.more began m (le_trans head.after le)) (subst (λ (n : ℕ). IsCopied file n head.later head.rest) start head.copied) in
       let is : copy ≡ front (groups_at found.at) ++ found.rest =
       head.is ∙ ap (λ (l : List ℕ). front here ++ l) found.is ∙ sym (append_assoc (front here) (flat_map group_bytes found.more) found.rest)
       ∙ ap (λ (l : List ℕ). l ++ found.rest) (sym (front_more here found.more) ∙ ap front (sym found.all)) in

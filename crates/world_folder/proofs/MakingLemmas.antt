@@ -166,7 +166,8 @@ module _ {D : Type 0} (file : D → List ℕ) (leaves : D → List ℕ → Type 
     log_a = kept_la;
     log_b = kept_lb;
     recovers = words_stand (file made.image_a) (file made.image_b) (file made.log_a) (file made.log_b) words image (ap image_of kept_b.same_content ∙ closed.image_b_closed)
-        (subst (λ (l : List ℕ). IsSegment l ClosedSegment) (sym kept_la.same_content) closed.log_a_closed) (subst (λ (l : List ℕ). IsSegment l ClosedSegment) (sym kept_lb.same_content) closed.log_b_closed);
+        (subst (λ (l : List ℕ). IsSegment l ClosedSegment) (sym kept_la.same_content) closed.log_a_closed)
+        (subst (λ (l : List ℕ). IsSegment l ClosedSegment) (sym kept_lb.same_content) closed.log_b_closed);
     sound = λ synced a b la lb left_a left_b left_la left_lb.
         words_are_sound a b la lb words (ap image_of (durable a left_a) ∙ image) (ap image_of (left_as files.image_b made.image_b b kept_b synced.image_b left_b) ∙ closed.image_b_closed)
         (subst (λ (l : List ℕ). IsSegment l ClosedSegment) (sym (left_as files.log_a made.log_a la kept_la synced.log_a left_la)) closed.log_a_closed)

@@ -35,7 +35,8 @@ same_place x y is =
     λ i. (file i, tick i)
 
 pub alike : (x y : Look)
-    → (option_eq (λ (s t : Slot × ℕ). slot.ghosts.eq s.0 t.0 && (s.1 == t.1)) x.newest y.newest && (option_eq (λ (m n : ℕ). m == n) x.log_a y.log_a && option_eq (λ (m n : ℕ). m == n) x.log_b y.log_b)) ≡ true
+    → (option_eq (λ (s t : Slot × ℕ). slot.ghosts.eq s.0 t.0 && (s.1 == t.1)) x.newest y.newest
+    && (option_eq (λ (m n : ℕ). m == n) x.log_a y.log_a && option_eq (λ (m n : ℕ). m == n) x.log_b y.log_b)) ≡ true
     → x ≡ y
 alike x y is =
     let newest = both _ _ is in

@@ -29,7 +29,8 @@ module _ {C D : Type 0} (content : C → Content) (file : D → List ℕ) (leave
   -- a start that was run to its end holds the recovered world at rest
   pub stands_opened : (files left : FourFiles D) (engine : Engine C) (from : ℕ) (words : List ℕ) (writer : ImageWriter D) (log : Log D) (ended : ℕ)
       → IsRead content file leaves files engine from left
-      → ((first : List ℕ) (ticks : List (List Action)) (acknowledged : ℕ) → Follows content file leaves engine left first ticks acknowledged → WorldStands file leaves first ticks words writer log × (ended ≡ length ticks))
+      → ((first : List ℕ) (ticks : List (List Action)) (acknowledged : ℕ)
+      → Follows content file leaves engine left first ticks acknowledged → WorldStands file leaves first ticks words writer log × (ended ≡ length ticks))
       → ended ≡ engine.ended → StandsOpened file leaves files engine.ended words writer log
   stands_opened files left engine from words writer log ended read opens is = λ first ticks acknowledged w.
       let f = read.follows first ticks acknowledged w in
@@ -71,7 +72,8 @@ module _ {D : Type 0} (file : D → List ℕ) (leaves : D → List ℕ → Type 
       subst (λ r. KeepsWorld file leaves files r.tick left) (sym g.0) (subst (KeepsWorld file leaves files world.tick) (sym g.1) keeps)
   given_left files given world keeps (failure.NotRun recovered ending) g = tt
 
-pub given_reason : {D S : Type 0} (file : D → List ℕ) (honest : Bool) (files given : FourFiles D) (world : WorldReport) (r : Result S (WorldFailure D)) → IfErr r (GivesBack world given) → IfErr r (FailsFor file honest files)
+pub given_reason : {D S : Type 0} (file : D → List ℕ) (honest : Bool) (files given : FourFiles D) (world : WorldReport)
+    (r : Result S (WorldFailure D)) → IfErr r (GivesBack world given) → IfErr r (FailsFor file honest files)
 given_reason file honest files given world (Ok s) g = tt
 given_reason file honest files given world (Err (failure.NotRecovered left why)) g = absurd g
 given_reason file honest files given world (Err (failure.NotStarted recovered left refusal)) g = absurd g

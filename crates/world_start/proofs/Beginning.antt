@@ -55,16 +55,22 @@ cells_left cells tick newest shut_a shut_b true words content all built = record
 }
 
 module _ {C D : Type 0} (content : C → Content) (file : D → List ℕ) (leaves : D → List ℕ → Type 0) (honest : Bool) where
-  pub images_order : (cells : ℕ) (newest : Option (Slot × ℕ)) (tick : ℕ) (words ia ib la lb : List ℕ) (engine : Engine C) (files : FourFiles D) → Begins content cells newest tick words ia ib la lb engine → length words ≡ cells
+  pub images_order : (cells : ℕ) (newest : Option (Slot × ℕ)) (tick : ℕ) (words ia ib la lb : List ℕ) (engine : Engine C)
+      (files : FourFiles D) → Begins content cells newest tick words ia ib la lb engine → length words ≡ cells
       → (IsTrue honest → ImagesFit engine.images (file files.image_a) (file files.image_b)) → ImagesInOrder content file honest engine files
   images_order cells newest tick words ia ib la lb engine files b all fits = record {
-    cells = ap (λ (k : ImageProgress). k.cells) b.images ∙ (started_cells (has_round newest tick) tick (made_keeper cells newest (is_shut ia) (is_shut ib)) ∙ (sym all ∙ ap length (sym (built_live words (has_round newest tick) (content engine.store) b.store))));
+    cells =
+        ap (λ (k : ImageProgress). k.cells) b.images
+        ∙
+        (started_cells (has_round newest tick) tick (made_keeper cells newest (is_shut ia) (is_shut ib))
+        ∙ (sym all ∙ ap length (sym (built_live words (has_round newest tick) (content engine.store) b.store))));
     left = subst (λ k. CellsLeft k (content engine.store)) (sym b.images) (cells_left cells tick newest (is_shut ia) (is_shut ib) (has_round newest tick) words (content engine.store) all b.store);
     fits = fits;
   }
 
   pub log_order : ((tick : ℕ) (shut_a shut_b : Bool) → QueueFollows (begun tick shut_a shut_b) [] × (end_of (begun tick shut_a shut_b) [] ≡ record { base = tick; count = 0 }))
-      → (cells : ℕ) (newest : Option (Slot × ℕ)) (tick : ℕ) (words ia ib la lb : List ℕ) (engine : Engine C) (files : FourFiles D) → Begins content cells newest tick words ia ib la lb engine → tick ≤ TICK_MAX
+      → (cells : ℕ) (newest : Option (Slot × ℕ)) (tick : ℕ) (words ia ib la lb : List ℕ) (engine : Engine C) (files : FourFiles D)
+      → Begins content cells newest tick words ia ib la lb engine → tick ≤ TICK_MAX
       → (IsTrue honest → LogFits engine.log (file files.log_a) (file files.log_b)) → LogInOrder content file honest engine files
   log_order begins cells newest tick words ia ib la lb engine files b most fits =
       let q = begins tick (is_shut la) (is_shut lb) in
@@ -72,7 +78,9 @@ module _ {C D : Type 0} (content : C → Content) (file : D → List ℕ) (leave
         fits = fits;
         queue = subst (λ k. QueueFollows k engine.queue.items) (sym b.log) (subst (QueueFollows (begun tick (is_shut la) (is_shut lb))) (sym b.queue) q.0);
         end = ap (λ k. end_of k engine.queue.items) b.log ∙ (ap (end_of (begun tick (is_shut la) (is_shut lb))) b.queue ∙ (q.1
-            ∙ (ap (λ n. record { base = n; count = 0 }) (let e : tick ≡ engine.ended - engine.since = omega (arith, b.ended, b.since) in e) ∙ ap (λ n. record { base = engine.ended - engine.since; count = n }) (sym b.since))));
+            ∙
+            (ap (λ n. record { base = n; count = 0 })
+            (let e : tick ≡ engine.ended - engine.since = omega (arith, b.ended, b.since) in e) ∙ ap (λ n. record { base = engine.ended - engine.since; count = n }) (sym b.since))));
         within = omega (arith, b.since);
         most = omega (arith, b.ended, most);
         ring = b.ring;
@@ -81,21 +89,25 @@ module _ {C D : Type 0} (content : C → Content) (file : D → List ℕ) (leave
   begun_images : StartLaws file leaves → (cells : ℕ) (newest : Option (Slot × ℕ)) (tick : ℕ) (round : Bool) (images : ImageFiles) (a b : D) → 1 ≤ cells → cells ≤ CELLS → tick ≤ TICK_MAX
       → Only (file a) (leaves a) → Only (file b) (leaves b) → IsReported cells newest images (file a) (file b)
       → ImagesStand (started_keeper round tick (made_keeper cells newest (is_shut (file a)) (is_shut (file b)))) (images_begun round tick images) (file a) (file b) (leaves a) (leaves b)
-  begun_images laws cells newest tick false images a b some few most oa ob reported = laws.made cells newest (is_shut (file a)) (is_shut (file b)) images a b some few oa ob (laws.reported (file a)) (laws.reported (file b)) reported
+  begun_images laws cells newest tick false images a b some few most oa ob reported =
+      laws.made cells newest (is_shut (file a)) (is_shut (file b)) images a b some few oa ob (laws.reported (file a)) (laws.reported (file b)) reported
   begun_images laws cells newest tick true images a b some few most oa ob reported =
       laws.round (made_keeper cells newest (is_shut (file a)) (is_shut (file b))) tick images a b refl most
       (laws.made cells newest (is_shut (file a)) (is_shut (file b)) images a b some few oa ob (laws.reported (file a)) (laws.reported (file b)) reported)
 
   pub start_follows : StartLaws file leaves → (cells : ℕ) (first : List ℕ) → length first ≡ cells → (newest : Option (Slot × ℕ)) (tick : ℕ) (words : List ℕ) (engine : Engine C) (files : FourFiles D)
       → Begins content cells newest tick words (file files.image_a) (file files.image_b) (file files.log_a) (file files.log_b) engine → 1 ≤ cells → cells ≤ CELLS → tick ≤ TICK_MAX
-      → Only (file files.image_a) (leaves files.image_a) → Only (file files.image_b) (leaves files.image_b) → Only (file files.log_a) (leaves files.log_a) → Only (file files.log_b) (leaves files.log_b)
+      → Only (file files.image_a) (leaves files.image_a) → Only (file files.image_b) (leaves files.image_b)
+      → Only (file files.log_a) (leaves files.log_a) → Only (file files.log_b) (leaves files.log_b)
       → (images : ImageFiles) → IsReported cells newest images (file files.image_a) (file files.image_b)
       → (before_a before_b : Segment) → IsSegment (file files.log_a) before_a → IsSegment (file files.log_b) before_b
       → (ticks : List (List Action)) (acknowledged : ℕ)
-      → InStep first ticks acknowledged (content engine.store) (images_begun (has_round newest tick) tick images) (InStart (record { tick = tick; before_a = before_a; before_b = before_b; begun = false })) []
+      → InStep first ticks acknowledged (content engine.store) (images_begun (has_round newest tick) tick images)
+      (InStart (record { tick = tick; before_a = before_a; before_b = before_b; begun = false })) []
       → after_ticks first ticks ≡ Ok words → tick ≡ length ticks → Follows content file leaves engine files first ticks acknowledged
   start_follows laws cells first all newest tick words engine files b some few most oa ob ola olb images reported before_a before_b reads_a reads_b ticks acknowledged step world count =
-      let same : engine.images.cells ≡ cells = ap (λ (k : ImageProgress). k.cells) b.images ∙ started_cells (has_round newest tick) tick (made_keeper cells newest (is_shut (file files.image_a)) (is_shut (file files.image_b))) in
+      let same : engine.images.cells ≡ cells = ap (λ (k : ImageProgress). k.cells) b.images ∙ started_cells
+      (has_round newest tick) tick (made_keeper cells newest (is_shut (file files.image_a)) (is_shut (file files.image_b))) in
       let begun_at = images_begun (has_round newest tick) tick images in
       let place = start_of tick before_a before_b (start_moves (is_shut (file files.log_a)) (is_shut (file files.log_b))) in
       record {
@@ -106,7 +118,8 @@ module _ {C D : Type 0} (content : C → Content) (file : D → List ℕ) (leave
         log = record {
           place = place;
           stands = subst (λ k. LogStands k (file files.log_a) (file files.log_b) (leaves files.log_a) (leaves files.log_b) place) (sym b.log)
-              (laws.log tick (is_shut (file files.log_a)) (is_shut (file files.log_b)) files.log_a files.log_b before_a before_b most ola olb (laws.reported (file files.log_a)) (laws.reported (file files.log_b)) reads_a reads_b);
+              (laws.log tick (is_shut (file files.log_a)) (is_shut (file files.log_b)) files.log_a files.log_b before_a before_b
+              most ola olb (laws.reported (file files.log_a)) (laws.reported (file files.log_b)) reads_a reads_b);
           count = acknowledged;
           at_least = omega arith;
           in_step = subst (λ q. InStep first ticks acknowledged (content engine.store) begun_at place.journal q) (sym b.queue) step;

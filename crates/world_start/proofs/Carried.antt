@@ -63,7 +63,8 @@ phase_begun true keeper none empty = (none, empty)
 phase_begun false keeper none empty = (none, empty)
 
 -- a round that begins leaves the files as they are
-begun_fits : (cells tick : ℕ) (newest : Option (Slot × ℕ)) (shut_a shut_b : Bool) (target newest_file : List ℕ) → tick ≤ TICK_MAX → Fits (made_keeper cells newest shut_a shut_b) target newest_file → Fits (begun_keeper tick (made_keeper cells newest shut_a shut_b)) target newest_file
+begun_fits : (cells tick : ℕ) (newest : Option (Slot × ℕ)) (shut_a shut_b : Bool) (target newest_file : List ℕ) → tick ≤ TICK_MAX
+    → Fits (made_keeper cells newest shut_a shut_b) target newest_file → Fits (begun_keeper tick (made_keeper cells newest shut_a shut_b)) target newest_file
 begun_fits cells tick newest shut_a shut_b target newest_file most fits =
     let shut = of_slot (target_of newest) shut_a shut_b in
     let keeper = begun_keeper tick (made_keeper cells newest shut_a shut_b) in
@@ -75,7 +76,8 @@ begun_fits cells tick newest shut_a shut_b target newest_file most fits =
       chunk = fits.chunk;
     }
 
-started_fits : (round : Bool) (cells tick : ℕ) (newest : Option (Slot × ℕ)) (shut_a shut_b : Bool) (image_a image_b : List ℕ) → tick ≤ TICK_MAX → ImagesFit (made_keeper cells newest shut_a shut_b) image_a image_b → ImagesFit (started_keeper round tick (made_keeper cells newest shut_a shut_b)) image_a image_b
+started_fits : (round : Bool) (cells tick : ℕ) (newest : Option (Slot × ℕ)) (shut_a shut_b : Bool) (image_a image_b : List ℕ)
+    → tick ≤ TICK_MAX → ImagesFit (made_keeper cells newest shut_a shut_b) image_a image_b → ImagesFit (started_keeper round tick (made_keeper cells newest shut_a shut_b)) image_a image_b
 started_fits false cells tick newest shut_a shut_b image_a image_b most fits = fits
 started_fits true cells tick newest shut_a shut_b image_a image_b most fits =
     begun_fits cells tick newest shut_a shut_b (of_slot (target_of newest) image_a image_b) (of_slot (target_of newest) image_b image_a) most fits
@@ -89,7 +91,9 @@ module _ {D : Type 0} (file : D → List ℕ) (files : FourFiles D) (ia ib la lb
     b = e.b;
     reads_a = (read.log_a_read.reads e.a).0 e.reads_a;
     reads_b = (read.log_b_read.reads e.b).0 e.reads_b;
-    holds = ap (λ (image : Image). recovery_of image (image_of (file files.image_b)) e.a e.b) (sym read.image_a_read.reads) ∙ ap (λ (image : Image). recovery_of (image_of ia) image e.a e.b) (sym read.image_b_read.reads) ∙ e.holds;
+    holds =
+        ap (λ (image : Image). recovery_of image (image_of (file files.image_b)) e.a e.b) (sym read.image_a_read.reads) ∙ ap
+        (λ (image : Image). recovery_of (image_of ia) image e.a e.b) (sym read.image_b_read.reads) ∙ e.holds;
   }
 
   pub read_closed : AreClosed ia ib la lb → AreClosed (file files.image_a) (file files.image_b) (file files.log_a) (file files.log_b)
@@ -108,7 +112,8 @@ module _ {D : Type 0} (file : D → List ℕ) (files : FourFiles D) (ia ib la lb
     log_b_closed = (read.log_b_read.reads ClosedSegment).1 closed.log_b_closed;
   }
 
-  pub read_begins : {C : Type 0} (content : C → Content) (leaves : D → List ℕ → Type 0) → StartLaws file leaves → (cells : ℕ) (newest : Option (Slot × ℕ)) (tick : ℕ) (words : List ℕ) (engine : Engine C) → 1 ≤ cells → cells ≤ CELLS → tick ≤ TICK_MAX
+  pub read_begins : {C : Type 0} (content : C → Content) (leaves : D → List ℕ → Type 0) → StartLaws file leaves → (cells : ℕ)
+      (newest : Option (Slot × ℕ)) (tick : ℕ) (words : List ℕ) (engine : Engine C) → 1 ≤ cells → cells ≤ CELLS → tick ≤ TICK_MAX
       → Begins content cells newest tick words ia ib la lb engine → Begins content cells newest tick words (file files.image_a) (file files.image_b) (file files.log_a) (file files.log_b) engine
   read_begins content leaves laws cells newest tick words engine some few most b =
       let fa = file files.image_a in
@@ -124,7 +129,8 @@ module _ {D : Type 0} (file : D → List ℕ) (files : FourFiles D) (ia ib la lb
         store = b.store;
         images = images;
         images_fit = λ holds. subst (λ (k : ImageProgress). ImagesFit k fa fb) (sym images)
-            (started_fits (has_round newest tick) cells tick newest (is_shut fa) (is_shut fb) fa fb most (laws.fits_images cells newest (is_shut fa) (is_shut fb) fa fb some few holds (laws.reported fa) (laws.reported fb)));
+            (started_fits (has_round newest tick) cells tick newest (is_shut fa) (is_shut fb) fa fb most
+            (laws.fits_images cells newest (is_shut fa) (is_shut fb) fa fb some few holds (laws.reported fa) (laws.reported fb)));
         log = log;
         log_fits = subst (λ k. LogFits k ga gb) (sym log) (laws.fits_log tick (is_shut ga) (is_shut gb) ga gb most (laws.reported ga) (laws.reported gb));
         queue = b.queue;
@@ -135,11 +141,13 @@ module _ {D : Type 0} (file : D → List ℕ) (files : FourFiles D) (ia ib la lb
 
 -- ---- files that were only read
 
-module _ {C D : Type 0} (content : C → Content) (file : D → List ℕ) (leaves : D → List ℕ → Type 0) (files left : FourFiles D) (kept : EachFile files left (KeepsFile file leaves)) (cells : ℕ) (newest : Option (Slot × ℕ)) (tick : ℕ) (words : List ℕ) (engine : Engine C)
+module _ {C D : Type 0} (content : C → Content) (file : D → List ℕ) (leaves : D → List ℕ → Type 0) (files left : FourFiles D)
+    (kept : EachFile files left (KeepsFile file leaves)) (cells : ℕ) (newest : Option (Slot × ℕ)) (tick : ℕ) (words : List ℕ) (engine : Engine C)
     (b : Begins content cells newest tick words (file files.image_a) (file files.image_b) (file files.log_a) (file files.log_b) engine) where
   pub images_left : HoldsNewest cells newest (file files.image_a) (file files.image_b) → ImagesFit engine.images (file left.image_a) (file left.image_b)
   images_left holds =
-      subst (λ a. ImagesFit engine.images a (file left.image_b)) (sym kept.image_a.same_content) (subst (λ b. ImagesFit engine.images (file files.image_a) b) (sym kept.image_b.same_content) (b.images_fit holds))
+      subst (λ a. ImagesFit engine.images a (file left.image_b)) (sym kept.image_a.same_content)
+      (subst (λ b. ImagesFit engine.images (file files.image_a) b) (sym kept.image_b.same_content) (b.images_fit holds))
 
   pub log_left : LogFits engine.log (file left.log_a) (file left.log_b)
   log_left = subst (λ a. LogFits engine.log a (file left.log_b)) (sym kept.log_a.same_content) (subst (λ b. LogFits engine.log (file files.log_a) b) (sym kept.log_b.same_content) b.log_fits)
@@ -155,7 +163,8 @@ pub record Chosen {D : Type 0} (file : D → List ℕ) (honest : Bool) (files : 
   pub recovers : Recovers image_a image_b log_a log_b x
   pub read : IsTrue honest → AreRead file files image_a image_b log_a log_b
 
-pub chosen : {D : Type 0} (file : D → List ℕ) (honest : Bool) (files : FourFiles D) (x : Result Recovery Refusal) (ia ib la lb : List ℕ) → Recovers ia ib la lb x → (IsTrue honest → AreFilesRead file files ia ib la lb) → Chosen file honest files x
+pub chosen : {D : Type 0} (file : D → List ℕ) (honest : Bool) (files : FourFiles D) (x : Result Recovery Refusal)
+    (ia ib la lb : List ℕ) → Recovers ia ib la lb x → (IsTrue honest → AreFilesRead file files ia ib la lb) → Chosen file honest files x
 chosen file true files x ia ib la lb e read = record {
   image_a = file files.image_a;
   image_b = file files.image_b;

@@ -91,7 +91,8 @@ log_passed was now a now_a b now_b faults up still_up = elim (faults up) [ inl s
 -- ---- of four files
 
 module _ {D : Type 0} (faults : D → ℕ) where
-  pub images_grew : (old new : FourFiles D) → Grew (faults old.image_a) (faults new.image_a) ⊎ Grew (faults old.image_b) (faults new.image_b) → SomeGrew (fault_counts faults old) (fault_counts faults new)
+  pub images_grew : (old new : FourFiles D) → Grew (faults old.image_a) (faults new.image_a)
+      ⊎ Grew (faults old.image_b) (faults new.image_b) → SomeGrew (fault_counts faults old) (fault_counts faults new)
   images_grew old new (inl grew) = (0, lit< tt, grew)
   images_grew old new (inr grew) = (1, lit< tt, grew)
 
@@ -155,7 +156,8 @@ of_tests false false r not e = not e
 
 pub no_device : (image_a image_b log_a log_b : List ℕ) (refusal : Refusal) → Recovers image_a image_b log_a log_b (Err refusal) → refusal ≡ Device → ⊥
 no_device image_a image_b log_a log_b refusal found is =
-    of_tests (is_bad_image (image_of image_a) || is_bad_image (image_of image_b)) (is_bad_segment found.a || is_bad_segment found.b) (recovery_from (newest (image_of image_a) (image_of image_b)) found.a found.b)
+    of_tests (is_bad_image (image_of image_a) || is_bad_image (image_of image_b))
+    (is_bad_segment found.a || is_bad_segment found.b) (recovery_from (newest (image_of image_a) (image_of image_b)) found.a found.b)
     (of_newest (newest (image_of image_a) (image_of image_b)) found.a found.b) (found.holds ∙ ap (λ (r : Refusal). Err r) is)
 
 pub no_memory : (refusal : Refusal) → refusal ≡ NoMemory → refusal ≡ Device → ⊥

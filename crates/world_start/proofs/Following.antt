@@ -78,11 +78,13 @@ pub logs_of_place : (keeper : LogProgress) (a b : List ℕ) (leaves_a leaves_b :
 logs_of_place keeper a b leaves_a leaves_b place over stands = logs_in keeper a b leaves_a leaves_b place.journal place.left over stands
 
 -- after the start there is an image
-newest_in_phase : (first : List ℕ) (ticks : List (List Action)) (acknowledged : ℕ) (images : ImageFiles) (logs : Logs) (queue : List Record) → HasPhase first ticks acknowledged images (Writing logs) queue → (newest : Images) × (images ≡ Newest newest)
+newest_in_phase : (first : List ℕ) (ticks : List (List Action)) (acknowledged : ℕ) (images : ImageFiles) (logs : Logs)
+    (queue : List Record) → HasPhase first ticks acknowledged images (Writing logs) queue → (newest : Images) × (images ≡ Newest newest)
 newest_in_phase first ticks acknowledged (NoneYet images) logs queue phase = absurd phase
 newest_in_phase first ticks acknowledged (Newest images) logs queue phase = (images, refl)
 
-pub newest_of : (first : List ℕ) (ticks : List (List Action)) (acknowledged : ℕ) (content : Content) (images : ImageFiles) (logs : Logs) (queue : List Record) → InStep first ticks acknowledged content images (Writing logs) queue → (newest : Images) × (images ≡ Newest newest)
+pub newest_of : (first : List ℕ) (ticks : List (List Action)) (acknowledged : ℕ) (content : Content) (images : ImageFiles)
+    (logs : Logs) (queue : List Record) → InStep first ticks acknowledged content images (Writing logs) queue → (newest : Images) × (images ≡ Newest newest)
 newest_of first ticks acknowledged content images logs queue w = newest_in_phase first ticks acknowledged images logs queue w.phase
 
 -- two equal lists have the same last item
@@ -93,7 +95,8 @@ last_same (a ∷ xs) [] x y e = absurd (omega (arith, ap length e, length-append
 last_same (a ∷ xs) (b ∷ ys) x y e = last_same xs ys x y cc
 
 -- with nothing queued and no round in work, the log continues from the tick of the newest image
-pub newest_is_base : (first : List ℕ) (ticks : List (List Action)) (acknowledged : ℕ) (images : Images) (logs : Logs) → IsKept first ticks acknowledged images logs [] → images.round ≡ None → logs.switch ≡ None → images.tick ≡ logs.base
+pub newest_is_base : (first : List ℕ) (ticks : List (List Action)) (acknowledged : ℕ) (images : Images) (logs : Logs)
+    → IsKept first ticks acknowledged images logs [] → images.round ≡ None → logs.switch ≡ None → images.tick ≡ logs.base
 newest_is_base first ticks acknowledged images logs k none no_switch =
     let m = k.follow_marks in
     let bases : base_in logs.before ++ logs.base ∷ [] ≡ m.earlier ++ images.tick ∷ [] =
@@ -124,7 +127,8 @@ module _ {C D : Type 0} (content : C → Content) (file : D → List ℕ) (leave
     pub has_log : HasLog (record { journal = Writing logs; left = 0 })
     pub ended : engine.ended ≡ length ticks
 
-  pub settles : (first : List ℕ) (ticks : List (List Action)) (acknowledged : ℕ) → (f : Follows content file leaves engine files first ticks acknowledged) → engine.log.starting ≡ false → engine.queue.items ≡ [] → engine.log.base ≡ engine.ended
+  pub settles : (first : List ℕ) (ticks : List (List Action)) (acknowledged : ℕ)
+      → (f : Follows content file leaves engine files first ticks acknowledged) → engine.log.starting ≡ false → engine.queue.items ≡ [] → engine.log.base ≡ engine.ended
       → ((place : LogPlace) → HasLog place → place.left ≡ 0)
       → ((logs : Logs) → HasLog (record { journal = Writing logs; left = 0 }) → (logs.pending ≡ []) × (logs.switch ≡ None) × (logs.base ≡ engine.log.base))
       → ((images : ImageFiles) → HasImages images → round_in images ≡ None) → Settles first ticks
@@ -164,7 +168,8 @@ module _ {C D : Type 0} (content : C → Content) (file : D → List ℕ) (leave
       → Follows content file leaves old files first ticks acknowledged
       → Follows content file leaves (record old { store = store; images = images }) (record files { image_a = a; image_b = b }) first ticks acknowledged
   image_follows old files store images a b first ticks acknowledged same live goes f =
-      let on = goes first ticks acknowledged f.place.journal old.queue.items (record { images = f.images; cells = f.cells; stands = f.has_images; count = f.count; at_least = f.at_least; in_step = f.in_step }) in
+      let on = goes first ticks acknowledged f.place.journal
+      old.queue.items (record { images = f.images; cells = f.cells; stands = f.has_images; count = f.count; at_least = f.at_least; in_step = f.in_step }) in
       record {
         images = on.images;
         cells = on.cells;
@@ -198,7 +203,8 @@ module _ {C D : Type 0} (content : C → Content) (file : D → List ℕ) (leave
   all_follows goes ready s files first ticks acknowledged over rests f =
       let idle = none_waits s.log s.queue.items rests in
       let logs = logs_of_place s.log (file files.log_a) (file files.log_b) (leaves files.log_a) (leaves files.log_b) f.place over f.has_log in
-      let is_ready = ready s.log files.log_a files.log_b logs.0 f.place.left (subst (λ j. LogStands s.log (file files.log_a) (file files.log_b) (leaves files.log_a) (leaves files.log_b) (record { journal = j; left = f.place.left })) logs.1 f.has_log) idle.0 in
+      let is_ready = ready s.log files.log_a files.log_b logs.0 f.place.left
+      (subst (λ j. LogStands s.log (file files.log_a) (file files.log_b) (leaves files.log_a) (leaves files.log_b) (record { journal = j; left = f.place.left })) logs.1 f.has_log) idle.0 in
       let empty = subst (λ q. InStep first ticks f.count (content s.store) f.images (Writing logs.0) q) idle.1
       (subst (λ j. InStep first ticks f.count (content s.store) f.images j s.queue.items) logs.1 f.in_step) in
       let on = goes.all_acknowledged first ticks f.count (content s.store) f.images logs.0 is_ready.0 empty in

@@ -62,7 +62,8 @@ module _ {D : Type 0} (file : D → List ℕ) (leaves : D → List ℕ → Type 
       }
 
   -- a log that waits for nothing still waits for nothing
-  pub still_waits : (first keeper : Progress) (images : ImageFiles) → (first.starting ≡ false → keeper.starting ≡ false) → (first.starting ≡ false) ⊎ (round_in images ≡ None) → (keeper.starting ≡ false) ⊎ (round_in images ≡ None)
+  pub still_waits : (first keeper : Progress) (images : ImageFiles) → (first.starting ≡ false → keeper.starting ≡ false)
+      → (first.starting ≡ false) ⊎ (round_in images ≡ None) → (keeper.starting ≡ false) ⊎ (round_in images ≡ None)
   still_waits first keeper images stays (inl over) = inl (stays over)
   still_waits first keeper images stays (inr none) = inr none
 

@@ -49,7 +49,8 @@ module _ {C D : Type 0} (content : C → Content) (file : D → List ℕ) (leave
       let there = closed_on read.image_a_is read.image_b_is read.log_a_is read.log_b_is closed in
       let here = closed_on (sym kept.image_a.same_content) (sym kept.image_b.same_content) (sym kept.log_a.same_content) (sym kept.log_b.same_content) there in
       let named = subst (λ w. Begins content cells None 0 w ia ib la lb engine) zeros b in
-      let begun = begins_on (read.image_a_is ∙ sym kept.image_a.same_content) (read.image_b_is ∙ sym kept.image_b.same_content) (read.log_a_is ∙ sym kept.log_a.same_content) (read.log_b_is ∙ sym kept.log_b.same_content) cells (replicate cells 0) engine named in
+      let begun = begins_on (read.image_a_is ∙ sym kept.image_a.same_content) (read.image_b_is ∙ sym kept.image_b.same_content)
+      (read.log_a_is ∙ sym kept.log_a.same_content) (read.log_b_is ∙ sym kept.log_b.same_content) cells (replicate cells 0) engine named in
       record {
         closed = there;
         ended = b.ended;
@@ -58,7 +59,8 @@ module _ {C D : Type 0} (content : C → Content) (file : D → List ℕ) (leave
         queue = b.queue;
         follows = λ synced.
             (let s = synced_on content file leaves files left kept synced in
-            start_follows content file leaves false laws cells (replicate cells 0) (length-replicate cells 0) None 0 (replicate cells 0) engine left begun some few (omega arith) s.image_a s.image_b s.log_a s.log_b
+            start_follows content file leaves false laws cells (replicate cells 0) (length-replicate cells 0) None 0
+            (replicate cells 0) engine left begun some few (omega arith) s.image_a s.image_b s.log_a s.log_b
             (NoneYet (record { round = None })) (refl, refl, here.image_a_closed, here.image_b_closed) ClosedSegment ClosedSegment here.log_a_closed here.log_b_closed
             [] 0 (begins.fresh (replicate cells 0) (content engine.store) (omega (arith, some, length-replicate {A = ℕ} cells 0)) begun.store) refl refl);
       }
@@ -79,9 +81,11 @@ safe_fresh (NoneYet images) a b la lb first count s = inl s.0
 safe_fresh (Newest images) a b la lb first count s = inr (fewer_sound a b la lb first [] 0 count (omega arith) s)
 
 -- the files of a new world after a start that a device ended
-pub start_failed : {C D : Type 0} (content : C → Content) (file : D → List ℕ) (leaves : D → List ℕ → Type 0) (files left : FourFiles D) (cells : ℕ) (last : Engine C) (refusal : Refusal) → refusal ≡ Device
+pub start_failed : {C D : Type 0} (content : C → Content) (file : D → List ℕ) (leaves : D → List ℕ → Type 0)
+    (files left : FourFiles D) (cells : ℕ) (last : Engine C) (refusal : Refusal) → refusal ≡ Device
     → (AreSynced file leaves files → Follows content file leaves last left (replicate cells 0) [] 0)
-    → ((f : Follows content file leaves last left (replicate cells 0) [] 0) → IsSafe f.images (leaves left.image_a) (leaves left.image_b) (leaves left.log_a) (leaves left.log_b) (replicate cells 0) [] f.count)
+    → ((f : Follows content file leaves last left (replicate cells 0) [] 0)
+    → IsSafe f.images (leaves left.image_a) (leaves left.image_b) (leaves left.log_a) (leaves left.log_b) (replicate cells 0) [] f.count)
     → AreNotMade file leaves files cells refusal left
 start_failed content file leaves files left cells last refusal is follows safe = record {
   not_empty = λ other. absurd (let e : Device ≡ NotEmpty = sym is ∙ other in let h = e in cc);

@@ -70,7 +70,8 @@ module _ {D : Type 0} (file : D → List ℕ) (leaves : D → List ℕ → Type 
       → (first : List ℕ) (ticks : List (List Action)) (acknowledged : ℕ) → AreOfWorld file leaves files first ticks acknowledged → AreSound file leaves files first ticks acknowledged
   world_sound once r files e first ticks acknowledged w = elim w.world [
     | inl sound ↦ sound
-    | inr new ↦ subst (λ t. AreSound file leaves files first t acknowledged) (sym new.1) (subst (λ n. AreSound file leaves files first [] n) (sym new.2) (new_world_sound once r files e first w.synced new.0))
+    | inr new ↦ subst (λ t. AreSound file leaves files first t acknowledged) (sym new.1)
+        (subst (λ n. AreSound file leaves files first [] n) (sym new.2) (new_world_sound once r files e first w.synced new.0))
   ]
 
   -- synced files keep all acknowledged ticks, and each recovered one may count as acknowledged
@@ -115,7 +116,8 @@ module _ {C D : Type 0} (content : C → Content) (file : D → List ℕ) (leave
   }
 
   -- and they stay sound
-  pub sound_on : (files left : FourFiles D) → EachFile files left (KeepsFile file leaves) → (first : List ℕ) (ticks : List (List Action)) (acknowledged : ℕ) → AreSound file leaves files first ticks acknowledged → AreSound file leaves left first ticks acknowledged
+  pub sound_on : (files left : FourFiles D) → EachFile files left (KeepsFile file leaves)
+      → (first : List ℕ) (ticks : List (List Action)) (acknowledged : ℕ) → AreSound file leaves files first ticks acknowledged → AreSound file leaves left first ticks acknowledged
   sound_on files left kept first ticks acknowledged s a b la lb ha hb hla hlb = s a b la lb (kept.image_a.crash a ha) (kept.image_b.crash b hb) (kept.log_a.crash la hla) (kept.log_b.crash lb hlb)
 
   -- and they stay those of a world
@@ -151,7 +153,8 @@ module _ {C D : Type 0} (content : C → Content) (file : D → List ℕ) (leave
       let here = subst (λ n. Begins content n (Some (r.slot, r.from)) r.tick r.words ia ib la lb engine) s.whole b in
       let step = begins.recovery first ticks acknowledged r (image_of ia) (image_of ib) e.a e.b (content engine.store) some s b.store in
       let count : length (take r.tick ticks) ≡ r.tick = length-take-le r.tick ticks s.world.ended in
-      start_follows content file leaves false laws (length first) first refl (Some (r.slot, r.from)) r.tick r.words engine files here some few most synced.image_a synced.image_b synced.log_a synced.log_b
+      start_follows content file leaves false laws (length first) first refl (Some (r.slot, r.from)) r.tick r.words engine files
+      here some few most synced.image_a synced.image_b synced.log_a synced.log_b
       (Newest (recovered_images r (image_of ia) (image_of ib))) (refl, refl, s.newest_whole, by_slot r.slot ia ib ∙ s.chosen, by_other r.slot ia ib)
       e.a e.b e.reads_a e.reads_b (take r.tick ticks) acknowledged step s.world.words_are (sym count)
 
@@ -179,8 +182,11 @@ module _ {C D : Type 0} (content : C → Content) (file : D → List ℕ) (leave
   is_read laws once restarts begins stays files left kept ia ib la lb read r n from words engine world most is_words is_n is_from e b =
       let there = recovers_on (Ok r) read.image_a_is read.image_b_is read.log_a_is read.log_b_is e in
       let here = recovers_on (Ok r) (sym kept.image_a.same_content) (sym kept.image_b.same_content) (sym kept.log_a.same_content) (sym kept.log_b.same_content) there in
-      let named = subst (λ w. Begins content (length r.words) (Some (r.slot, r.from)) r.tick w ia ib la lb engine) is_words (subst (λ m. Begins content m (Some (r.slot, r.from)) r.tick words ia ib la lb engine) is_n b) in
-      let begun = begins_on (length r.words) (Some (r.slot, r.from)) r.tick r.words engine (read.image_a_is ∙ sym kept.image_a.same_content) (read.image_b_is ∙ sym kept.image_b.same_content) (read.log_a_is ∙ sym kept.log_a.same_content) (read.log_b_is ∙ sym kept.log_b.same_content) named in
+      let named = subst (λ w. Begins content (length r.words) (Some (r.slot, r.from)) r.tick w ia ib la lb engine) is_words
+      (subst (λ m. Begins content m (Some (r.slot, r.from)) r.tick words ia ib la lb engine) is_n b) in
+      let begun = begins_on (length r.words) (Some (r.slot, r.from)) r.tick r.words engine
+      (read.image_a_is ∙ sym kept.image_a.same_content) (read.image_b_is ∙ sym kept.image_b.same_content)
+      (read.log_a_is ∙ sym kept.log_a.same_content) (read.log_b_is ∙ sym kept.log_b.same_content) named in
       record {
         matches = record {
           recovery = r;
@@ -190,10 +196,15 @@ module _ {C D : Type 0} (content : C → Content) (file : D → List ℕ) (leave
           ended = begun.ended;
           since = begun.since;
         };
-        newest = λ none. (let e : Some (r.slot, r.from) ≡ None = sym (ap (λ (k : ImageProgress). k.newest) begun.images ∙ started_newest (nat_lt r.from r.tick) r.tick _) ∙ none in absurd (let h = e in cc));
+        newest =
+            λ none.
+            (let e : Some (r.slot, r.from) ≡ None = sym (ap (λ (k : ImageProgress). k.newest) begun.images ∙ started_newest (nat_lt r.from r.tick) r.tick _) ∙ none in absurd (let h = e in cc));
         follows = λ first ticks acknowledged w.
-            let all = all_recovered file leaves once stays r files there first ticks acknowledged w.synced (world_sound file leaves once r files there first ticks acknowledged w) in
-            (all.0, recovered_follows laws once restarts begins stays r engine left world most here begun first ticks r.tick (synced_on files left kept w.synced) (sound_on files left kept first ticks r.tick all.1));
+            let all = all_recovered file leaves once stays r files there first ticks acknowledged w.synced (world_sound file leaves once r files there first ticks acknowledged w) in (
+              all.0,
+              recovered_follows laws once restarts begins stays r engine left world most here begun first ticks r.tick
+                  (synced_on files left kept w.synced) (sound_on files left kept first ticks r.tick all.1),
+            );
       }
     where
       begins_on : {a b c d a2 b2 c2 d2 : List ℕ} (cells : ℕ) (newest : Option (Slot × ℕ)) (tick : ℕ) (words : List ℕ) (engine : Engine C) → a ≡ a2 → b ≡ b2 → c ≡ c2 → d ≡ d2

@@ -37,7 +37,8 @@ no_less acknowledged given = omega arith
 
 -- ---- a step
 
-module _ {S : Type 0} (content : S → Content) (took : S → Option Taken → S → Type 0) (after_take : (old new : S) (given : Option Taken) → took old given new → Takes (content old) given (content new)) where
+module _ {S : Type 0} (content : S → Content) (took : S → Option Taken → S → Type 0)
+    (after_take : (old new : S) (given : Option Taken) → took old given new → Takes (content old) given (content new)) where
   module _ {D : Type 0} (file : D → List ℕ) (leaves : D → List ℕ → Type 0) where
     pub round_steps : WorldsGoOn → (keeper next_keeper : Progress) (old new : S) (a next_a b next_b : D) (given : ImageAnswer)
         → next_keeper.cells ≡ keeper.cells
@@ -53,7 +54,9 @@ module _ {S : Type 0} (content : S → Content) (took : S → Option Taken → S
           stands = next.1;
           count = acknowledged_opened r.count given;
           at_least = (let more = no_less r.count given in omega (arith, r.at_least, more));
-          in_step = goes_on.image_step first ticks r.count r.images journal queue given next.0 (content old) (content new) (steps_content content took after_take (length first) r.images given next.0 old new steps) r.in_step;
+          in_step =
+              goes_on.image_step first ticks r.count r.images journal queue given next.0 (content old) (content new)
+              (steps_content content took after_take (length first) r.images given next.0 old new steps) r.in_step;
         }
 
   -- ---- whatever the disks are
@@ -76,7 +79,8 @@ module _ {S : Type 0} (content : S → Content) (took : S → Option Taken → S
       → ((given ≡ answer.Idle) ↔ (keeper.phase ≡ Idle)) → OnWorking given (next.phase ≡ Idle → ⊥) → ((given ≡ answer.Down) ↔ (next.phase ≡ Down))
       → IfOpened given (next ≡ opened_keeper keeper) ((next.tick ≡ keeper.tick) × (next.newest ≡ keeper.newest)) → next.cells ≡ keeper.cells → 0 < left_of keeper
       → CellsLeft keeper (content old) → CellsLeft next (content new)
-  cells_step answer.Idle keeper next old new taken all idle on down ended same some cells = absurd (let none : left_of keeper ≡ 0 = ap (λ p. moves_left p keeper) (idle.0 refl) in omega (arith, some, none))
+  cells_step answer.Idle keeper next old new taken all idle on down ended same some cells =
+      absurd (let none : left_of keeper ≡ 0 = ap (λ p. moves_left p keeper) (idle.0 refl) in omega (arith, some, none))
   cells_step answer.Working keeper next old new taken all idle on down ended same some cells = record {
     in_round = λ _. one_less keeper next old new (cells.in_round (λ at. absurd (let e = idle.1 at in cc))) same taken;
     idle = λ at. absurd (on at);
@@ -127,7 +131,8 @@ none_left keeper none = by_phase keeper.phase keeper (omega arith)
 
 -- ---- the tick of a round
 
-pub tick_step : (given : ImageAnswer) (first keeper next : Progress) → ((given ≡ answer.Idle) ↔ (keeper.phase ≡ Idle)) → OnWorking given (next.phase ≡ Idle → ⊥) → ((given ≡ answer.Down) ↔ (next.phase ≡ Down))
+pub tick_step : (given : ImageAnswer) (first keeper next : Progress) → ((given ≡ answer.Idle) ↔ (keeper.phase ≡ Idle))
+    → OnWorking given (next.phase ≡ Idle → ⊥) → ((given ≡ answer.Down) ↔ (next.phase ≡ Down))
     → IfOpened given (next ≡ opened_keeper keeper) ((next.tick ≡ keeper.tick) × (next.newest ≡ keeper.newest)) → 0 < left_of keeper → RoundTick first keeper → RoundTick first next
 tick_step answer.Idle first keeper next idle on down ended some t = absurd (let none : left_of keeper ≡ 0 = ap (λ p. moves_left p keeper) (idle.0 refl) in omega (arith, some, none))
 tick_step answer.Working first keeper next idle on down ended some t = record {

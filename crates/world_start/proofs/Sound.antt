@@ -34,7 +34,8 @@ holds_of_more first ticks most bound Bad h = h
 holds_of_more first ticks most bound (Open tick words) h = (h.0, world_of_more first ticks most tick words h.1)
 
 -- files that are sound for the first ticks, and acknowledge as many, are sound for all of them
-pub sound_of_more : (a b la lb : List ℕ → Type 0) (first : List ℕ) (ticks : List (List Action)) (most acknowledged count : ℕ) → acknowledged ≤ count → IsSound a b la lb first (take most ticks) count → IsSound a b la lb first ticks acknowledged
+pub sound_of_more : (a b la lb : List ℕ → Type 0) (first : List ℕ) (ticks : List (List Action)) (most acknowledged count : ℕ)
+    → acknowledged ≤ count → IsSound a b la lb first (take most ticks) count → IsSound a b la lb first ticks acknowledged
 sound_of_more a b la lb first ticks most acknowledged count fewer s x y z w hx hy hz hw =
     let r = s x y z w hx hy hz hw in
     let k = r.holds in
@@ -57,11 +58,13 @@ sound_of_more a b la lb first ticks most acknowledged count fewer s x y z w hx h
 
 -- ---- of a world that is followed
 
-safe_is_sound : (images : ImageFiles) (a b la lb : List ℕ → Type 0) (first : List ℕ) (ticks : List (List Action)) (acknowledged : ℕ) → (newest_in images ≡ None → ⊥) → IsSafe images a b la lb first ticks acknowledged → IsSound a b la lb first ticks acknowledged
+safe_is_sound : (images : ImageFiles) (a b la lb : List ℕ → Type 0) (first : List ℕ) (ticks : List (List Action))
+    (acknowledged : ℕ) → (newest_in images ≡ None → ⊥) → IsSafe images a b la lb first ticks acknowledged → IsSound a b la lb first ticks acknowledged
 safe_is_sound (NoneYet images) a b la lb first ticks acknowledged has s = absurd (has refl)
 safe_is_sound (Newest images) a b la lb first ticks acknowledged has s = s
 
-pub fewer_sound : (a b la lb : List ℕ → Type 0) (first : List ℕ) (ticks : List (List Action)) (acknowledged count : ℕ) → acknowledged ≤ count → IsSound a b la lb first ticks count → IsSound a b la lb first ticks acknowledged
+pub fewer_sound : (a b la lb : List ℕ → Type 0) (first : List ℕ) (ticks : List (List Action)) (acknowledged count : ℕ)
+    → acknowledged ≤ count → IsSound a b la lb first ticks count → IsSound a b la lb first ticks acknowledged
 fewer_sound a b la lb first ticks acknowledged count fewer s =
     sound_of_more a b la lb first ticks (length ticks) acknowledged count fewer (subst (λ t. IsSound a b la lb first t count) (sym (take_all (length ticks) ticks (omega arith))) s)
 
@@ -77,9 +80,11 @@ module _ {C D : Type 0} (content : C → Content) (file : D → List ℕ) (leave
       → IsSafe f.images (leaves files.image_a) (leaves files.image_b) (leaves files.log_a) (leaves files.log_b) first ticks f.count
   follows_safe engine files first ticks acknowledged f =
       safe files.image_a files.image_b files.log_a files.log_b first ticks f.count (content engine.store) f.images f.place.journal engine.queue.items f.in_step
-      (subst (λ n. ImageFilesAre n f.images (leaves files.image_a) (leaves files.image_b)) f.cells (are engine.images f.images files.image_a files.image_b f.has_images)) (reads engine.log files.log_a files.log_b f.place f.has_log)
+      (subst (λ n. ImageFilesAre n f.images (leaves files.image_a) (leaves files.image_b)) f.cells
+      (are engine.images f.images files.image_a files.image_b f.has_images)) (reads engine.log files.log_a files.log_b f.place f.has_log)
 
-  pub follows_sound : (engine : Engine C) (files : FourFiles D) (first : List ℕ) (ticks : List (List Action)) (acknowledged : ℕ) → HasNewest engine.images → Follows content file leaves engine files first ticks acknowledged
+  pub follows_sound : (engine : Engine C) (files : FourFiles D) (first : List ℕ) (ticks : List (List Action)) (acknowledged : ℕ)
+      → HasNewest engine.images → Follows content file leaves engine files first ticks acknowledged
       → AreSound file leaves files first ticks acknowledged
   follows_sound engine files first ticks acknowledged has f =
       fewer_sound (leaves files.image_a) (leaves files.image_b) (leaves files.log_a) (leaves files.log_b) first ticks acknowledged f.count f.at_least
@@ -87,9 +92,13 @@ module _ {C D : Type 0} (content : C → Content) (file : D → List ℕ) (leave
       (λ none. has (newest engine.images f.images files.image_a files.image_b f.has_images ∙ none)) (follows_safe engine files first ticks acknowledged f))
 
   -- after the start there is an image
-  pub started_sound : (engine : Engine C) (files : FourFiles D) (first : List ℕ) (ticks : List (List Action)) (acknowledged : ℕ) → engine.log.starting ≡ false → Follows content file leaves engine files first ticks acknowledged
+  pub started_sound : (engine : Engine C) (files : FourFiles D) (first : List ℕ) (ticks : List (List Action)) (acknowledged : ℕ)
+      → engine.log.starting ≡ false → Follows content file leaves engine files first ticks acknowledged
       → AreSound file leaves files first ticks acknowledged
   started_sound engine files first ticks acknowledged over f =
       let logs = logs_of_place engine.log (file files.log_a) (file files.log_b) (leaves files.log_a) (leaves files.log_b) f.place over f.has_log in
-      let images = newest_of first ticks f.count (content engine.store) f.images logs.0 engine.queue.items (subst (λ j. InStep first ticks f.count (content engine.store) f.images j engine.queue.items) logs.1 f.in_step) in
-      follows_sound engine files first ticks acknowledged (λ none. (let e : Some (images.0.slot, images.0.tick) ≡ None = sym (newest engine.images f.images files.image_a files.image_b f.has_images ∙ ap newest_in images.1) ∙ none in absurd (let h = e in cc))) f
+      let images = newest_of first ticks f.count (content engine.store) f.images logs.0 engine.queue.items
+      (subst (λ j. InStep first ticks f.count (content engine.store) f.images j engine.queue.items) logs.1 f.in_step) in
+      follows_sound engine files first ticks acknowledged
+      (λ none.
+      (let e : Some (images.0.slot, images.0.tick) ≡ None = sym (newest engine.images f.images files.image_a files.image_b f.has_images ∙ ap newest_in images.1) ∙ none in absurd (let h = e in cc))) f

@@ -36,7 +36,8 @@ accepted_writes-append : (world now : List ℕ) (before after : List Action) →
     → accepted_writes world (before ++ after) ≡ accepted_writes world before ++ accepted_writes now after
 accepted_writes-append world now [] after done = let same : world ≡ now = cc in ap (λ w. accepted_writes w after) same
 accepted_writes-append world now (a ∷ more) after done =
-    writes_then-append (effect world a) now (writes_of world a) (accepted_writes now after) (λ next. after_actions next more) (λ next. accepted_writes next more) (λ next. accepted_writes next (more ++ after))
+    writes_then-append (effect world a) now (writes_of world a) (accepted_writes now after) (λ next. after_actions next more)
+    (λ next. accepted_writes next more) (λ next. accepted_writes next (more ++ after))
     (λ next done_next. accepted_writes-append next now more after done_next) done
 
 -- the writes of one action

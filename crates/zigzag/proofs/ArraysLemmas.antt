@@ -52,7 +52,8 @@ words_at-set_unseen_one : (marks : List Bool) (zeros ones : List ℕ) (i v : ℕ
 words_at-set_unseen_one [] zeros ones i v e = refl
 words_at-set_unseen_one (m ∷ marks) [] ones i v e = refl
 words_at-set_unseen_one (m ∷ marks) (x ∷ zeros) [] i v e = refl
-words_at-set_unseen_one (m ∷ marks) (x ∷ zeros) (y ∷ ones) zero v e = ap (λ b. cond (not b) v x ∷ words_at (map not marks) zeros ones) e ∙ sym (ap (λ b. cond (not b) y x ∷ words_at (map not marks) zeros ones) e)
+words_at-set_unseen_one (m ∷ marks) (x ∷ zeros) (y ∷ ones) zero v e =
+    ap (λ b. cond (not b) v x ∷ words_at (map not marks) zeros ones) e ∙ sym (ap (λ b. cond (not b) y x ∷ words_at (map not marks) zeros ones) e)
 words_at-set_unseen_one (m ∷ marks) (x ∷ zeros) (y ∷ ones) (suc i) v e = ap (λ words. cond (not m) y x ∷ words) (words_at-set_unseen_one marks zeros ones i v e)
 
 -- the same for array zero
@@ -61,7 +62,8 @@ words_at-set_unseen_zero [] zeros ones i v e = refl
 words_at-set_unseen_zero (m ∷ marks) [] ones i v e = refl
 words_at-set_unseen_zero (m ∷ marks) (x ∷ zeros) [] zero v e = refl
 words_at-set_unseen_zero (m ∷ marks) (x ∷ zeros) [] (suc i) v e = refl
-words_at-set_unseen_zero (m ∷ marks) (x ∷ zeros) (y ∷ ones) zero v e = ap (λ b. cond (not b) y v ∷ words_at (map not marks) zeros ones) e ∙ sym (ap (λ b. cond (not b) y x ∷ words_at (map not marks) zeros ones) e)
+words_at-set_unseen_zero (m ∷ marks) (x ∷ zeros) (y ∷ ones) zero v e =
+    ap (λ b. cond (not b) y v ∷ words_at (map not marks) zeros ones) e ∙ sym (ap (λ b. cond (not b) y x ∷ words_at (map not marks) zeros ones) e)
 words_at-set_unseen_zero (m ∷ marks) (x ∷ zeros) (y ∷ ones) (suc i) v e = ap (λ words. cond (not m) y x ∷ words) (words_at-set_unseen_zero marks zeros ones i v e)
 
 -- the same for the array that a mark names

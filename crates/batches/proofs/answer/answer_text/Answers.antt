@@ -9,7 +9,10 @@ use Rattle.batches.proofs.answer.answer_text.Goals as goal
 -- the replies so far, and one more
 text_more : (head number replies reply text now all : List ℕ) → now ≡ text ++ reply → text ≡ head ++ (number ++ (58 ∷ replies)) → all ≡ replies ++ reply → now ≡ head ++ (number ++ (58 ∷ all))
 text_more head number replies reply text now all one before more =
-    one ∙ (ap (λ l. l ++ reply) before ∙ (append_assoc head (number ++ (58 ∷ replies)) reply ∙ (ap (λ l. head ++ l) (append_assoc number (58 ∷ replies) reply) ∙ ap (λ l. head ++ (number ++ (58 ∷ l))) (sym more))))
+    one
+    ∙
+    (ap (λ l. l ++ reply) before
+    ∙ (append_assoc head (number ++ (58 ∷ replies)) reply ∙ (ap (λ l. head ++ l) (append_assoc number (58 ∷ replies) reply) ∙ ap (λ l. head ++ (number ++ (58 ∷ l))) (sym more))))
 
 pub loop-request-preserved : goal.loop-request-preserved
 loop-request-preserved g c =
@@ -23,8 +26,13 @@ loop-request-preserved g c =
     let request = get_or requests i first in
     let put = c.put_reply.ensures in
     record {
-      run = has_run_next g.C.Cells.words g.C.Cells.accessed c.args.c.now requests i first c.loop-request.c c.put_reply.new.c c.loop-request.t c.put_reply.new.t below inv.run put.after put.writes put.tick_room put.one;
-      text = rw (add-one) (text_more (codes "tick ") (decimal c.args.number) (replies (begun words) (take i requests)) (32 ∷ reply play request) _ _ _ put.text inv.text (replies_next (begun words) requests i first below ∙ ap (λ p. replies (begun words) (take i requests) ++ (32 ∷ reply p request)) (sym inv.run.now)));
+      run =
+          has_run_next g.C.Cells.words g.C.Cells.accessed c.args.c.now requests i first c.loop-request.c c.put_reply.new.c
+          c.loop-request.t c.put_reply.new.t below inv.run put.after put.writes put.tick_room put.one;
+      text =
+          rw (add-one)
+          (text_more (codes "tick ") (decimal c.args.number) (replies (begun words) (take i requests)) (32 ∷ reply play request) _
+          _ _ put.text inv.text (replies_next (begun words) requests i first below ∙ ap (λ p. replies (begun words) (take i requests) ++ (32 ∷ reply p request)) (sym inv.run.now)));
       short = (let e = put.few in omega (arith, e, inv.short));
       room = (let e = put.room in omega (arith, e, inv.room));
     }

@@ -20,7 +20,9 @@ loop-request-preserved g c =
     let before = answers (begun words) (take i requests) in
     let items : c.push_reserved.new.self.items ≡ c.loop-request.answers.items ++ c.run_request.result ∷ [] = c.push_reserved.ensures.items in
     record {
-      run = has_run_next g.C.Cells.words g.C.Cells.accessed c.args.c.now requests i first c.loop-request.c c.run_request.new.c c.loop-request.t c.run_request.new.t below inv.run did.after did.writes did.tick_room did.one;
+      run =
+          has_run_next g.C.Cells.words g.C.Cells.accessed c.args.c.now requests i first c.loop-request.c c.run_request.new.c
+          c.loop-request.t c.run_request.new.t below inv.run did.after did.writes did.tick_room did.one;
       given = rw (add-one) (items ∙ (ap (λ (l : List Answer). l ++ c.run_request.result ∷ []) inv.given ∙ (ap (λ (a : Answer). before ++ a ∷ []) did.answer
           ∙ (ap (λ (p : Play). before ++ answer_of p request ∷ []) inv.run.now ∙ sym (answers_next (begun words) requests i first below)))));
       count = (let n = inv.count in omega (arith, simp length-append at (ap length items), n));

@@ -21,7 +21,8 @@ pub loop-preserved : goal.loop-preserved
 loop-preserved g c =
     let within = c.loop.invariant.within in
     let count = c.in_ok-written.ensures.count in
-    let room : length (take (length c.args.bytes.now - c.loop.written) (drop c.loop.written c.args.bytes.now)) ≡ length c.args.bytes.now - c.loop.written = rw (take_rest c.args.bytes.now c.loop.written) (length-drop c.loop.written c.args.bytes.now) in
+    let room : length (take (length c.args.bytes.now - c.loop.written) (drop c.loop.written c.args.bytes.now))
+    ≡ length c.args.bytes.now - c.loop.written = rw (take_rest c.args.bytes.now c.loop.written) (length-drop c.loop.written c.args.bytes.now) in
     record {
       within = omega (arith, within, count, room);
       front = Appends-more _ _ _ c.loop.written c.in_ok-written.field-0 c.args.bytes.now within c.loop.invariant.front c.in_ok-written.ensures.wrote;

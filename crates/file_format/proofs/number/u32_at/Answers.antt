@@ -6,4 +6,5 @@ use Rattle.file_format.proofs.number.u32_at.Goals as goal
 
 pub returns : goal.returns
 unfolding number_of
-returns c = c.read_u32.ensures ∙ ap (little_number 4) (take_all (length c.args.bytes.now - c.args.place) (drop c.args.place c.args.bytes.now) (omega (arith, length-drop c.args.place c.args.bytes.now)))
+returns c =
+    c.read_u32.ensures ∙ ap (little_number 4) (take_all (length c.args.bytes.now - c.args.place) (drop c.args.place c.args.bytes.now) (omega (arith, length-drop c.args.place c.args.bytes.now)))

@@ -4,7 +4,8 @@ use Rattle.file_readers.proofs.FrontLemmas.{on_ok, read_on}
 use Rattle.file_readers.proofs.forward.read_forward.Goals as goal
 
 -- bytes that are made longer, with the file's bytes in the part that is new
-filled : (content old reserved resized seen new pad : List ℕ) (at end len : ℕ) → seen ≡ resized → resized ≡ take end reserved ++ pad → reserved ≡ old → length old ≡ at → at ≤ end → len ≡ end → length seen ≡ len → length new ≡ length seen
+filled : (content old reserved resized seen new pad : List ℕ) (at end len : ℕ) → seen ≡ resized
+    → resized ≡ take end reserved ++ pad → reserved ≡ old → length old ≡ at → at ≤ end → len ≡ end → length seen ≡ len → length new ≡ length seen
     → new ≡ take at seen ++ take (length seen - at) (drop at content) → old ≡ take (length old) content → take len (new ++ drop (length new) resized) ≡ take end content
 filled content old reserved resized seen new pad at end len is_seen is_resized is_reserved start few is_len all new_all read first =
     let within : length old ≤ end = omega arith in
@@ -20,6 +21,8 @@ pub returns-clause-read : goal.returns-clause-read
 returns-clause-read g c = λ honest.
     let start : length c.args.bytes.now.items ≡ c.len-start.result = search rules in
     on_ok c.read_behind.result _ _
-    (λ read first. filled (g.D.Disk.content c.args.disk.now) c.args.bytes.now.items c.reserve_exact.new.self.items c.resize.new.self.items c.deref_mut.result.now c.read_behind.new.bytes _ c.len-start.result c.args.end c.resize.new.self.len
-    c.deref_mut.ensures.value c.in_ok-resize.ensures.items c.in_ok-reserve_exact.ensures.items start (omega (arith, start, c.requires.further)) c.in_ok-resize.ensures.len c.deref_mut.ensures.len c.read_behind.ensures.length read first)
+    (λ read first. filled (g.D.Disk.content c.args.disk.now) c.args.bytes.now.items c.reserve_exact.new.self.items
+    c.resize.new.self.items c.deref_mut.result.now c.read_behind.new.bytes _ c.len-start.result c.args.end c.resize.new.self.len
+    c.deref_mut.ensures.value c.in_ok-resize.ensures.items c.in_ok-reserve_exact.ensures.items start
+    (omega (arith, start, c.requires.further)) c.in_ok-resize.ensures.len c.deref_mut.ensures.len c.read_behind.ensures.length read first)
     (c.read_behind.ensures.read honest)

@@ -30,9 +30,11 @@ returns-clause-no_further g c =
     let most = length c.read_forward-2.new.bytes.items in
     on_ok c.read_forward-2.result _ _
     (λ longer. (
-    let header : length c.read_forward.new.bytes.items ≤ most = omega (arith, longer.0, c.min-2.ensures, c.image_end-end.ensures.least, ap length c.deref.ensures.value, c.in_ok-read_forward.ensures.longer, c.min.ensures) in
+    let header : length c.read_forward.new.bytes.items
+    ≤ most = omega (arith, longer.0, c.min-2.ensures, c.image_end-end.ensures.least, ap length c.deref.ensures.value, c.in_ok-read_forward.ensures.longer, c.min.ensures) in
     let len = asked_more called most old old c.len.new.self Length _ (asked_none called most old) tt c.len.ensures.called in
-    let first = asked_read called most old c.len.new.self c.read_forward.new.disk _ _ len (omega (arith, ap length c.requires, header, c.in_ok-read_forward.ensures.longer)) c.read_forward.ensures.asked in
+    let first = asked_read called most old c.len.new.self c.read_forward.new.disk _ _ len
+    (omega (arith, ap length c.requires, header, c.in_ok-read_forward.ensures.longer)) c.read_forward.ensures.asked in
     asked_read called most old c.read_forward.new.disk c.read_forward-2.new.disk _ _ first (omega (arith, longer.0, header)) c.read_forward-2.ensures.asked))
     c.read_forward-2.ensures.longer
 

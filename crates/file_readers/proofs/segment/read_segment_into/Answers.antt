@@ -39,7 +39,9 @@ returns-in-Some-clause-no_further g c =
     let longer = c.in_ok-read_forward.ensures.longer in
     let same : take (length before) c.deref.result.now ≡ before = ap (take (length before)) c.deref.ensures.value ∙ longer.1 in
     let all : length c.deref.result.now ≡ c.loop-bytes.end = ap length c.deref.ensures.value ∙ longer.0 in
-    let count : length c.truncate.new.self.items ≡ c.in-Some.count = ap length c.truncate.ensures.items ∙ Rattle.std.proofs.lemmas.List.length-take-le c.in-Some.count c.read_forward.new.bytes.items (omega (arith, c.in-Some.ensures.within, ap length c.deref.ensures.value)) in
+    let count : length c.truncate.new.self.items
+    ≡ c.in-Some.count = ap length c.truncate.ensures.items ∙ Rattle.std.proofs.lemmas.List.length-take-le c.in-Some.count
+    c.read_forward.new.bytes.items (omega (arith, c.in-Some.ensures.within, ap length c.deref.ensures.value)) in
     let far : (c.loop-bytes.end ≤ PIECE_BYTES) ⊎ (c.loop-bytes.end ≤ 2 * c.in-Some.count) = elim so_far.pieces [
       | inl first ↦ inl first
       | inr later ↦ inr (
@@ -79,7 +81,8 @@ loop-bytes-preserved g c =
       faults = c.in_ok-read_forward.ensures.faults ∙ so_far.faults;
       asked = (
           let here = asked_wider called (length before) (length c.read_forward.new.bytes.items) c.args.disk.now c.loop-bytes.disk (omega (arith, so_far.within, longer.0)) so_far.asked in
-          asked_read called (length c.read_forward.new.bytes.items) c.args.disk.now c.loop-bytes.disk c.read_forward.new.disk _ _ here (omega (arith, so_far.within, longer.0)) c.read_forward.ensures.asked);
+          asked_read called (length c.read_forward.new.bytes.items) c.args.disk.now c.loop-bytes.disk c.read_forward.new.disk _ _
+          here (omega (arith, so_far.within, longer.0)) c.read_forward.ensures.asked);
       pieces = inr (
         omega (arith, next, longer.0),
         (more.1.0, more.1.1, subst (λ (l : List ℕ). IsExtent l more.1.0 more.1.1 false) c.deref.ensures.value more.1.2),

@@ -45,4 +45,5 @@ returns-in_err-read_segment_file-clause-fault g c is_device =
 pub returns-in_err-read_segment_file-2-clause-fault : goal.returns-in_err-read_segment_file-2-clause-fault
 returns-in_err-read_segment_file-2-clause-fault g c is_device =
     let refusal : c.in_err-read_segment_file-2.field-0.0 ≡ Device = search rules in
-    fourth_grew _ _ _ _ _ _ _ _ c.in_ok-read_image_file.ensures.faults c.in_ok-read_image_file-2.ensures.faults c.in_ok-read_segment_file.ensures.faults (rw refusal at c.in_err-read_segment_file-2.ensures.faults)
+    fourth_grew _ _ _ _ _ _ _ _ c.in_ok-read_image_file.ensures.faults c.in_ok-read_image_file-2.ensures.faults
+    c.in_ok-read_segment_file.ensures.faults (rw refusal at c.in_err-read_segment_file-2.ensures.faults)

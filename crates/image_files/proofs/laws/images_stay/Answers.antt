@@ -7,7 +7,8 @@ returns-clause-fits g c cells newest shut_a shut_b image_a image_b some most = m
 
 pub returns-clause-made : goal.returns-clause-made
 returns-clause-made g c cells newest shut_a shut_b images image_a image_b some most only_a only_b a_reports b_reports reported =
-    made_stands cells some most shut_a shut_b (g.D.Disk.content image_a) (g.D.Disk.content image_b) (g.D.Disk.may_leave image_a) (g.D.Disk.may_leave image_b) only_a only_b a_reports b_reports newest images reported
+    made_stands cells some most shut_a shut_b (g.D.Disk.content image_a) (g.D.Disk.content image_b) (g.D.Disk.may_leave image_a)
+    (g.D.Disk.may_leave image_b) only_a only_b a_reports b_reports newest images reported
 
 pub returns-clause-round : goal.returns-clause-round
 returns-clause-round g c keeper images image_a image_b stands = round_stands images keeper _ _ stands.held

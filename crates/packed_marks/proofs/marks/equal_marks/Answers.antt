@@ -11,7 +11,8 @@ returns-then-set-clause-marks c =
 
 pub returns-else-set-clause-packed : goal.returns-else-set-clause-packed
 returns-else-set-clause-packed c =
-    IfOk-weaker c.vec.result _ _ (λ words e. subst (IsPacked c.args.cells) (sym (e (λ y f. f) ∙ ap (λ (n : ℕ). replicate n 0) c.chunks_of.ensures)) (packed-clear c.args.cells)) c.vec.ensures.items_if_clones_equal
+    IfOk-weaker c.vec.result _
+    _ (λ words e. subst (IsPacked c.args.cells) (sym (e (λ y f. f) ∙ ap (λ (n : ℕ). replicate n 0) c.chunks_of.ensures)) (packed-clear c.args.cells)) c.vec.ensures.items_if_clones_equal
 
 pub returns-else-set-clause-marks : goal.returns-else-set-clause-marks
 returns-else-set-clause-marks c =

@@ -9,8 +9,10 @@ pub returns-clause-fits : goal.returns-clause-fits
 returns-clause-fits c = λ holds.
     let a = c.args.image_a.now in
     let b = c.args.image_b.now in
-    let reported = c.images_stay.ensures.fits c.args.cells c.args.newest (is_shut a) (is_shut b) a b c.requires.some c.requires.few holds (c.gates_are_reported.ensures a).yes (c.gates_are_reported.ensures b).yes in
-    let fits = made_fits c.in_ok-images.images c.args.cells c.args.newest c.known_shut.result c.known_shut-2.result (is_shut a) (is_shut b) a b c.known_shut.ensures c.known_shut-2.ensures c.in_ok-images.ensures.made reported in
+    let reported = c.images_stay.ensures.fits c.args.cells c.args.newest (is_shut a) (is_shut b) a b c.requires.some
+    c.requires.few holds (c.gates_are_reported.ensures a).yes (c.gates_are_reported.ensures b).yes in
+    let fits = made_fits c.in_ok-images.images c.args.cells c.args.newest c.known_shut.result c.known_shut-2.result (is_shut a)
+    (is_shut b) a b c.known_shut.ensures c.known_shut-2.ensures c.in_ok-images.ensures.made reported in
     elim c.if-round.branch [
       | then-round w ↦ subst (λ k. FitsFiles k a b) (sym w.images-is) (begun_fits c.in_ok-images.images w.begin.new.self c.args.tick a b w.begin.ensures.begun w.begin.ensures.fits fits)
       | else-round w ↦ subst (λ k. FitsFiles k a b) (sym w.images-is) fits

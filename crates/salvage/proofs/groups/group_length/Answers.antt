@@ -19,7 +19,16 @@ pub overflow_add-length : goal.overflow_add-length
 overflow_add-length c =
     let part : List Tick = take c.args.count (drop c.args.first c.args.ticks.now) in
     let at = part_at c.args.ticks.now c.args.first c.args.count c.loop-i.i c.requires.within c.loop-i-test.true in
-    omega (arith, c.loop-i.invariant, c.tick_length-length.ensures, length-flat_map-take tick_bytes part c.loop-i.i [] at.0, ap (λ (tick : Tick). length (tick_bytes tick)) (at.1 ∙ sym c.in-Some.ensures.some.1), length_group_is part, c.requires.few)
+    omega (
+      arith,
+      c.loop-i.invariant,
+      c.tick_length-length.ensures,
+      length-flat_map-take tick_bytes part c.loop-i.i [] at.0,
+      ap
+          (λ (tick : Tick). length (tick_bytes tick)) (at.1 ∙ sym c.in-Some.ensures.some.1),
+      length_group_is part,
+      c.requires.few,
+    )
 
 pub loop-i-preserved : goal.loop-i-preserved
 loop-i-preserved c =

@@ -10,7 +10,15 @@ use Rattle.salvage.proofs.groups.tick_length.Goals as goal
 pub overflow_add-length : goal.overflow_add-length
 overflow_add-length c =
     let tick = c.args.tick.now in
-    omega (arith, c.loop-action.invariant, length-flat_map-take action_bytes tick c.loop-action.action-index (Set 0 0) c.loop-action-test.true, c.action_length-length.ensures, length_tick_is tick, c.requires)
+    omega (
+      arith,
+      c.loop-action.invariant,
+      length-flat_map-take action_bytes tick c.loop-action.action-index (Set 0 0)
+          c.loop-action-test.true,
+      c.action_length-length.ensures,
+      length_tick_is tick,
+      c.requires,
+    )
 
 pub returns : goal.returns
 returns c =

@@ -24,7 +24,8 @@ returns-in_err-found-clause-refused c =
     let pa = c.in_ok-log_part_a.log_part_a in
     let pb = c.in_ok-log_part_a.log_part_b in
     let refusal = c.in_err-found.field-0.0 in
-    let x = taken_answers ia ib la lb c.in_ok-formed_part.field-0 c.in_ok-formed_part-2.field-0 pa pb c.in_ok-formed_part.ensures.kept c.in_ok-formed_part-2.ensures.kept c.in_ok-log_part_a.ensures.replayed in
+    let x = taken_answers ia ib la lb c.in_ok-formed_part.field-0 c.in_ok-formed_part-2.field-0 pa pb
+    c.in_ok-formed_part.ensures.kept c.in_ok-formed_part-2.ensures.kept c.in_ok-log_part_a.ensures.replayed in
     let none : refusal ≡ NoMemory = elim c.in_err-found.ensures.refused [
       | inl none ↦ none
       | inr e ↦ absurd (not_refused ia ib (kept_log pa la) (kept_log pb lb) x.newest x.a x.b x.reads_a x.reads_b x.answers refusal
@@ -47,6 +48,12 @@ returns-clause-accepted c = λ r e.
     let pb = c.in_ok-log_part_a.log_part_b in
     let found = recovery_of_answer c.in_ok-found.found in
     let order : AreReplayedInOrder (kept_image ipa ia) (kept_image ipb ib) la lb fa fb pa pb =
-    subst (λ i. AreReplayedInOrder i (kept_image ipb ib) la lb fa fb pa pb) c.kept.ensures (subst (λ i. AreReplayedInOrder c.kept.result.now i la lb fa fb pa pb) c.kept-2.ensures c.in_ok-log_part_a.ensures.replayed) in
-    let w = taken_whole ia ib la lb ipa ipb fa fb pa pb c.in_ok-image_part_a.ensures.part c.in_ok-image_part_b.ensures.part c.in_ok-formed_part.ensures.part c.in_ok-formed_part-2.ensures.part c.in_ok-formed_part.ensures.kept order r e in
-    (one_answer ia ib la lb found r (recovers_on (Ok found) (c.kept.ensures ∙ w.image_a_is) (c.kept-2.ensures ∙ w.image_b_is) (c.kept-kept_a.ensures ∙ w.log_a_is) (c.kept-kept_b.ensures ∙ w.log_b_is) c.in_ok-found.ensures.recovered) e, w.all)
+    subst (λ i. AreReplayedInOrder i (kept_image ipb ib) la lb fa fb pa pb) c.kept.ensures
+    (subst (λ i. AreReplayedInOrder c.kept.result.now i la lb fa fb pa pb) c.kept-2.ensures c.in_ok-log_part_a.ensures.replayed) in
+    let w = taken_whole ia ib la lb ipa ipb fa fb pa pb c.in_ok-image_part_a.ensures.part c.in_ok-image_part_b.ensures.part
+    c.in_ok-formed_part.ensures.part c.in_ok-formed_part-2.ensures.part c.in_ok-formed_part.ensures.kept order r e in (
+      one_answer ia ib la lb found r
+          (recovers_on (Ok found) (c.kept.ensures ∙ w.image_a_is) (c.kept-2.ensures ∙ w.image_b_is)
+          (c.kept-kept_a.ensures ∙ w.log_a_is) (c.kept-kept_b.ensures ∙ w.log_b_is) c.in_ok-found.ensures.recovered) e,
+      w.all,
+    )

@@ -12,6 +12,9 @@ returns g c =
     record {
       is = ap (λ k. record s { store = c.mark.new.self; images = k; queue = c.push_back.new.self; since = 0 }) c.begin.ensures.begun;
       marks = c.mark.ensures;
-      queue = ap (λ (b : Buffer Record). b.items) c.push_back.ensures.items ∙ keep_all s.queue.capacity (s.queue.items ++ records.Switch s.ended ∷ []) (omega (arith, length-append s.queue.items (records.Switch s.ended ∷ []), ap length c.requires.none, c.requires.ring));
+      queue =
+          ap (λ (b : Buffer Record). b.items) c.push_back.ensures.items
+          ∙ keep_all s.queue.capacity (s.queue.items ++ records.Switch s.ended ∷ [])
+          (omega (arith, length-append s.queue.items (records.Switch s.ended ∷ []), ap length c.requires.none, c.requires.ring));
       ring = ap (λ (b : Buffer Record). b.capacity) c.push_back.ensures.items;
     }

@@ -42,7 +42,10 @@ returns-clause-started g c = λ honest.
       };
       follows = λ first ticks acknowledged synced sound.
           (let f = read.follows first ticks acknowledged (record { synced = synced; world = inl sound }) in
-          subst (λ n. Follows g.C.Capture.content g.D.Disk.content g.D.Disk.may_leave c.start.new.self c.start.new.files first (take read.recovery.tick ticks) n) ended (c.in_ok-start.ensures.acknowledges honest first (take read.recovery.tick ticks) read.recovery.tick f.1));
+          subst
+          (λ n.
+          Follows g.C.Capture.content g.D.Disk.content g.D.Disk.may_leave c.start.new.self c.start.new.files first
+          (take read.recovery.tick ticks) n) ended (c.in_ok-start.ensures.acknowledges honest first (take read.recovery.tick ticks) read.recovery.tick f.1));
     }
 
 pub returns-clause-recovered : goal.returns-clause-recovered

@@ -19,7 +19,10 @@ returns-clause-plays g c =
       is = refl;
       tick = c.answer.new.t;
       list = e.tick ∙ ap (accepted_of requests) (sym live);
-      queue = ap (λ (b : Buffer Record). b.items) c.push_back.ensures.items ∙ keep_all s.queue.capacity (s.queue.items ++ records.Tick c.answer.new.t ∷ []) (omega (arith, length-append s.queue.items (records.Tick c.answer.new.t ∷ []), ap length c.requires.none, c.requires.ring));
+      queue =
+          ap (λ (b : Buffer Record). b.items) c.push_back.ensures.items
+          ∙ keep_all s.queue.capacity (s.queue.items ++ records.Tick c.answer.new.t ∷ [])
+          (omega (arith, length-append s.queue.items (records.Tick c.answer.new.t ∷ []), ap length c.requires.none, c.requires.ring));
       ring = ap (λ (b : Buffer Record). b.capacity) c.push_back.ensures.items;
       live = live_after ∙ (e.words ∙ ap (words_after requests) (sym live));
       cells = c.accesses_write.ensures.cells s.store c.answer.new.c _ e.writes;

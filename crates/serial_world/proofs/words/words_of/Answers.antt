@@ -12,7 +12,8 @@ loop-i-preserved g c =
     let words = g.C.Cells.words in
     let below : c.loop-i.i < length (words c.args.store.now) = omega (arith, c.loop-i-test.true, c.len-cells.ensures.cells) in (
       c.read.ensures.unchanged ∙ c.loop-i.invariant.0,
-      c.in_ok-push.ensures.items ∙ one_more (words c.args.store.now) (words c.loop-i.store) c.loop-i.words.items c.loop-i.i c.read.result below c.loop-i.invariant.0 c.loop-i.invariant.1 c.read.ensures.word,
+      c.in_ok-push.ensures.items ∙ one_more (words c.args.store.now) (words c.loop-i.store) c.loop-i.words.items c.loop-i.i
+          c.read.result below c.loop-i.invariant.0 c.loop-i.invariant.1 c.read.ensures.word,
       g.met.C.Capture.after_access c.loop-i.store c.read.new.self (Read c.loop-i.i) c.read.ensures.access ∙ c.loop-i.invariant.2,
     )
 

@@ -21,7 +21,8 @@ loop-at-preserved g c =
       goes = (
         inv.goes.0 ++ done.0,
         Appends-both _ _ _ inv.goes.0 done.0 inv.goes.1 done.1,
-        subst (λ (b : List ℕ). Goes g.X.World.runs c.args.world.now c.args.session.now.reader b c.serve_some.new.session.reader c.serve_some.new.world (inv.goes.0 ++ done.0)) (take-more c.loop-at.at c.in_ok-at.field-0 piece inv.within)
+        subst (λ (b : List ℕ). Goes g.X.World.runs c.args.world.now c.args.session.now.reader b c.serve_some.new.session.reader
+            c.serve_some.new.world (inv.goes.0 ++ done.0)) (take-more c.loop-at.at c.in_ok-at.field-0 piece inv.within)
             (goes_then g.X.World.runs _ _ _ _ _ _ (take c.loop-at.at piece) _ inv.goes.0 done.0 inv.goes.2 done.2),
       );
     }

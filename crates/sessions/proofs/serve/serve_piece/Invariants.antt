@@ -7,7 +7,8 @@ use Rattle.sessions.proofs.serve.serve_piece.Given as goal
 abbrev pub invariant-loop-at : goal.invariant-loop-at
 invariant-loop-at g l = record {
   within : l.at ≤ length l.piece;
-  goes : (written : List ℕ) × Appends (g.W.Write.contents l.fn.w) (g.W.Write.contents l.w) written × Goes g.X.World.runs l.fn.world l.fn.session.reader (take l.at l.piece) l.session.reader l.world written;
+  goes : (written : List ℕ) × Appends (g.W.Write.contents l.fn.w) (g.W.Write.contents l.w) written
+      × Goes g.X.World.runs l.fn.world l.fn.session.reader (take l.at l.piece) l.session.reader l.world written;
 }
 
 abbrev pub decreases-loop-at : goal.decreases-loop-at

@@ -13,7 +13,8 @@ returns-in_err-n-clause-fault g c =
     let inv = c.loop.invariant in
     let fault = c.in_err-n.ensures.fault in
     let p = err_from_is_err_and c.from_residual.result c.from_residual.ensures.1 in
-    rw (p.1, p.2) (inv.0, Consumes-kept _ _ _ inv.0 inv.1 fault.1, inv.2.0, inv.2.1, inr (fault.0, session_stops g.X.World.runs c.args.world.now c.loop.world c.loop.session.reader inv.0 inv.2.0 inv.2.2))
+    rw (p.1, p.2)
+    (inv.0, Consumes-kept _ _ _ inv.0 inv.1 fault.1, inv.2.0, inv.2.1, inr (fault.0, session_stops g.X.World.runs c.args.world.now c.loop.world c.loop.session.reader inv.0 inv.2.0 inv.2.2))
 
 pub returns-then-n-eq0-clause-whole : goal.returns-then-n-eq0-clause-whole
 returns-then-n-eq0-clause-whole g c =
@@ -21,7 +22,8 @@ returns-then-n-eq0-clause-whole g c =
     let piece = c.read_some.new.piece in (
       c.in_ok-n.ensures.end c.if-n-eq0.true,
       inv.0,
-      subst (Consumes (g.R.Read.remaining c.args.r.now) (g.R.Read.remaining c.read_some.new.r)) (ap (λ k. inv.0 ++ take k piece) c.if-n-eq0.true ∙ append-nil inv.0) (Consumes-both _ _ _ inv.0 (take c.in_ok-n.n piece) inv.1 c.in_ok-n.ensures.took),
+      subst (Consumes (g.R.Read.remaining c.args.r.now) (g.R.Read.remaining c.read_some.new.r))
+          (ap (λ k. inv.0 ++ take k piece) c.if-n-eq0.true ∙ append-nil inv.0) (Consumes-both _ _ _ inv.0 (take c.in_ok-n.n piece) inv.1 c.in_ok-n.ensures.took),
       inv.2.0,
       inv.2.1,
       session_ends g.X.World.runs c.args.world.now c.loop.world c.loop.session.reader inv.0 inv.2.0 inv.2.2,

@@ -33,7 +33,8 @@ returns-in_err-answer_batch-in-Whole-clause-fault g c =
     let fault = c.in_err-answer_batch-in-Whole.ensures.fault in
     let p = err_from_is_err_and c.from_residual.result c.from_residual.ensures.1 in
     let run = subst (λ l. g.X.World.runs c.args.world.now l fault.1 c.answer_batch.new.world) c.batch.ensures fault.2 in
-    let breaks = whole_breaks g.X.World.runs c.one_reading.ensures.some c.args.world.now c.answer_batch.new.world c.args.session.now.reader c.take-n.result.0 c.args.piece.now fault.3 c.take-n.new.self.requests fault.1
+    let breaks = whole_breaks g.X.World.runs c.one_reading.ensures.some c.args.world.now c.answer_batch.new.world
+    c.args.session.now.reader c.take-n.result.0 c.args.piece.now fault.3 c.take-n.new.self.requests fault.1
     (c.take-n.ensures.whole c.in-Whole.is) run fault.4 in
     rw (p.1, p.2) (fault.3, fault.5, inr (fault.0, breaks))
 
@@ -41,7 +42,8 @@ pub returns-in_err-write_fault-in-TooLong-clause-fault : goal.returns-in_err-wri
 returns-in_err-write_fault-in-TooLong-clause-fault g c =
     let fault = c.in_err-write_fault-in-TooLong.ensures.fault in
     let p = err_from_is_err_and c.from_residual-in_err-write_fault-in-TooLong.result c.from_residual-in_err-write_fault-in-TooLong.ensures.1 in
-    let breaks = too_long_breaks g.X.World.runs c.one_reading.ensures.some c.args.world.now c.args.session.now.reader c.take-n.result.0 c.args.piece.now fault.1 (c.take-n.ensures.too_long c.in-TooLong.is) fault.2 in
+    let breaks = too_long_breaks g.X.World.runs c.one_reading.ensures.some c.args.world.now c.args.session.now.reader
+    c.take-n.result.0 c.args.piece.now fault.1 (c.take-n.ensures.too_long c.in-TooLong.is) fault.2 in
     rw (p.1, p.2) (fault.1, fault.3, inr (fault.0, breaks))
 
 pub returns-in_ok-write_fault-in-TooLong-clause-fault : goal.returns-in_ok-write_fault-in-TooLong-clause-fault

@@ -7,7 +7,12 @@ pub returns-in-Open-clause-says : goal.returns-in-Open-clause-says
 returns-in-Open-clause-says c =
     let opens = c.in_ok-fresh.ensures.opens in
     on_ok _ _ c.push_bytes.result
-    (λ text. (codes "ready 0", text, opening_leads c.args.meaning c.in-Some.line _ _ _ _ opens.0 _ c.in-Some.is c.in-Open.is (ap (option_map open_state_of) c.put.ensures) c.in_ok-fresh.ensures.method opens.1 opens.2)) c.push_bytes.ensures.text
+    (λ text. (
+      codes "ready 0",
+      text,
+      opening_leads c.args.meaning c.in-Some.line _ _ _ _ opens.0 _ c.in-Some.is c.in-Open.is
+          (ap (option_map open_state_of) c.put.ensures) c.in_ok-fresh.ensures.method opens.1 opens.2,
+    )) c.push_bytes.ensures.text
 
 pub returns-in-Some-core-clause-says : goal.returns-in-Some-core-clause-says
 returns-in-Some-core-clause-says c =

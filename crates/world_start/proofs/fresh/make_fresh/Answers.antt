@@ -24,7 +24,8 @@ returns-clause-made g c = λ honest.
     let begun = c.in_ok-engine.ensures.begun honest in
     let ended : last.ended ≡ 0 = c.start.ensures.ended.0 ∙ begun.ended in
     let since : last.since ≡ 0 = c.start.ensures.ended.1 ∙ begun.since in
-    on_ok c.start.result (IsAtRest g.C.Capture.content file g.D.Disk.honest last after) (last.log.down ≡ false) (last.images.phase ≡ Idle) (last.log.current ≡ A) (AreMade file leaves c.args.files.now c.args.cells after)
+    on_ok c.start.result (IsAtRest g.C.Capture.content file g.D.Disk.honest last after) (last.log.down ≡ false)
+    (last.images.phase ≡ Idle) (last.log.current ≡ A) (AreMade file leaves c.args.files.now c.args.cells after)
     (λ rest up idle first.
     let ready = log_is_ready last.log last.queue.items last.ended last.since rest.rests rest.log.end rest.log.within up in
     let settled = c.log_outcomes.ensures.settled last.log (file after.log_a) (file after.log_b) (rest.log.fits honest) ready.ready rest.started in
@@ -41,7 +42,8 @@ returns-clause-made g c = λ honest.
           (subst (λ n. IsSegment (of_slot last.log.current (file after.log_a) (file after.log_b)) (OpenSegment n settled.0)) base settled.2));
       sound = λ synced.
           (let on = c.start.ensures.follows honest (replicate c.args.cells 0) [] 0 (begun.follows synced) in
-          started_sound g.C.Capture.content file leaves c.images_stay.ensures.newest c.images_stay.ensures.left c.log_outcomes.ensures.reads c.worlds_are_safe.ensures last after (replicate c.args.cells 0) [] 0 rest.started on);
+          started_sound g.C.Capture.content file leaves c.images_stay.ensures.newest c.images_stay.ensures.left
+          c.log_outcomes.ensures.reads c.worlds_are_safe.ensures last after (replicate c.args.cells 0) [] 0 rest.started on);
     })
     c.start.ensures.rest c.start.ensures.up c.start.ensures.idle (c.start.ensures.first begun.starting begun.queue)
 
@@ -51,7 +53,8 @@ returns-clause-left g c = λ honest.
     if_refused c.start.result (λ r. r ≡ Device) (λ r. AreNotMade D.content D.may_leave c.args.files.now c.args.cells r c.start.new.files)
     (λ r is. start_failed g.C.Capture.content D.content D.may_leave c.args.files.now c.start.new.files c.args.cells c.start.new.self r is
     (λ synced. c.start.ensures.follows honest (replicate c.args.cells 0) [] 0 ((c.in_ok-engine.ensures.begun honest).follows synced))
-    (follows_safe g.C.Capture.content D.content D.may_leave c.images_stay.ensures.newest c.images_stay.ensures.left c.log_outcomes.ensures.reads c.worlds_are_safe.ensures c.start.new.self c.start.new.files (replicate c.args.cells 0) [] 0))
+    (follows_safe g.C.Capture.content D.content D.may_leave c.images_stay.ensures.newest c.images_stay.ensures.left
+    c.log_outcomes.ensures.reads c.worlds_are_safe.ensures c.start.new.self c.start.new.files (replicate c.args.cells 0) [] 0))
     c.start.ensures.refused
 
 pub returns-clause-device : goal.returns-clause-device

@@ -50,19 +50,26 @@ returns-clause-ahead g c =
     let few : cells ≤ CELLS = omega (arith, same, world.most) in
     let recovered = recovers_on (Ok (recovery_of_answer found)) c.deref.ensures.value c.deref-2.ensures.value c.deref-3.ensures.value c.deref-4.ensures.value c.in_ok-found.ensures.recovered in
     record {
-      images = images_order g.C.Capture.content content leaves g.D.Disk.honest cells newest found.tick words bytes.image_a.items bytes.image_b.items bytes.log_a.items bytes.log_b.items engine left begins all
+      images =
+          images_order g.C.Capture.content content leaves g.D.Disk.honest cells newest found.tick words bytes.image_a.items
+          bytes.image_b.items bytes.log_a.items bytes.log_b.items engine left begins all
           (λ honest. (
           let read = c.in_ok-bytes.ensures.read honest in
-          let begun = read_begins content files bytes.image_a.items bytes.image_b.items bytes.log_a.items bytes.log_b.items read g.C.Capture.content leaves c.starts_begin.ensures cells newest found.tick words engine some few c.in_ok-found.ensures.numbers.1 begins in
+          let begun = read_begins content files bytes.image_a.items bytes.image_b.items bytes.log_a.items bytes.log_b.items read
+          g.C.Capture.content leaves c.starts_begin.ensures cells newest found.tick words engine some few c.in_ok-found.ensures.numbers.1 begins in
           images_left g.C.Capture.content content leaves files left (c.read_files.ensures.kept honest) cells newest found.tick words engine begun
           (holds_newest c.crash_restarts.ensures cells (recovery_of_answer found) (content files.image_a) (content files.image_b) (content files.log_a) (content files.log_b) same
           (read_recovers content files bytes.image_a.items bytes.image_b.items bytes.log_a.items bytes.log_b.items read (Ok (recovery_of_answer found)) recovered))));
-      log = log_order g.C.Capture.content content leaves g.D.Disk.honest c.starts_begin.ensures.queue cells newest found.tick words bytes.image_a.items bytes.image_b.items bytes.log_a.items bytes.log_b.items engine left begins c.in_ok-found.ensures.numbers.1
+      log =
+          log_order g.C.Capture.content content leaves g.D.Disk.honest c.starts_begin.ensures.queue cells newest found.tick words
+          bytes.image_a.items bytes.image_b.items bytes.log_a.items bytes.log_b.items engine left begins c.in_ok-found.ensures.numbers.1
           (λ honest. (
-          let begun = read_begins content files bytes.image_a.items bytes.image_b.items bytes.log_a.items bytes.log_b.items (c.in_ok-bytes.ensures.read honest) g.C.Capture.content leaves c.starts_begin.ensures cells newest found.tick words engine some few c.in_ok-found.ensures.numbers.1 begins in
+          let begun = read_begins content files bytes.image_a.items bytes.image_b.items bytes.log_a.items bytes.log_b.items
+          (c.in_ok-bytes.ensures.read honest) g.C.Capture.content leaves c.starts_begin.ensures cells newest found.tick words engine some few c.in_ok-found.ensures.numbers.1 begins in
           log_left g.C.Capture.content content leaves files left (c.read_files.ensures.kept honest) cells newest found.tick words engine begun));
       up = (
-        λ down. images_up (nat_lt found.from found.tick) found.tick cells newest (is_shut bytes.image_a.items) (is_shut bytes.image_b.items) (ap (λ (k : ImageProgress). k.phase) (sym begins.images) ∙ down),
+        λ down. images_up (nat_lt found.from found.tick) found.tick cells newest (is_shut bytes.image_a.items)
+            (is_shut bytes.image_b.items) (ap (λ (k : ImageProgress). k.phase) (sym begins.images) ∙ down),
         ap (λ (k : LogProgress). k.down) begins.log,
       );
       since = begins.since;
@@ -94,7 +101,8 @@ returns-clause-read g c = λ honest.
     (sym all ∙ ap length c.deref-5.ensures.value) refl
     (read_recovers content files bytes.image_a.items bytes.image_b.items bytes.log_a.items bytes.log_b.items read (Ok (recovery_of_answer found))
     (recovers_on (Ok (recovery_of_answer found)) c.deref.ensures.value c.deref-2.ensures.value c.deref-3.ensures.value c.deref-4.ensures.value c.in_ok-found.ensures.recovered))
-    (read_begins content files bytes.image_a.items bytes.image_b.items bytes.log_a.items bytes.log_b.items read g.C.Capture.content leaves c.starts_begin.ensures cells (Some (found.slot, found.from)) found.tick words engine some few c.in_ok-found.ensures.numbers.1 c.in_ok-engine.ensures.begins)
+    (read_begins content files bytes.image_a.items bytes.image_b.items bytes.log_a.items bytes.log_b.items read
+    g.C.Capture.content leaves c.starts_begin.ensures cells (Some (found.slot, found.from)) found.tick words engine some few c.in_ok-found.ensures.numbers.1 c.in_ok-engine.ensures.begins)
 
 pub returns-clause-recovered : goal.returns-clause-recovered
 returns-clause-recovered g c =
@@ -102,7 +110,8 @@ returns-clause-recovered g c =
     let bytes = c.in_ok-bytes.bytes in
     let b = c.in_ok-engine.ensures.begins in
     let of_bytes = chosen g.D.Disk.content g.D.Disk.honest c.args.files.now (Ok (recovery_of_answer found)) bytes.image_a.items bytes.image_b.items bytes.log_a.items bytes.log_b.items
-    (recovers_on (Ok (recovery_of_answer found)) c.deref.ensures.value c.deref-2.ensures.value c.deref-3.ensures.value c.deref-4.ensures.value c.in_ok-found.ensures.recovered) c.in_ok-bytes.ensures.read in
+    (recovers_on (Ok (recovery_of_answer found)) c.deref.ensures.value c.deref-2.ensures.value c.deref-3.ensures.value
+    c.deref-4.ensures.value c.in_ok-found.ensures.recovered) c.in_ok-bytes.ensures.read in
     record {
       bytes = record {
         image_a = of_bytes.image_a;

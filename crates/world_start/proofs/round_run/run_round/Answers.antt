@@ -14,11 +14,15 @@ loop-keeper-preserved g c =
     let some : 0 < left_of c.loop-keeper.keeper = omega (arith, c.left.ensures, c.loop-keeper-test.true) in
     record {
       fits = e.fits;
-      cells = cells_step content took after_take c.step.result c.loop-keeper.keeper c.step.new.self c.loop-keeper.store c.step.new.from e.taken e.all_taken e.idle e.goes_on e.down e.ended e.cells some inv.cells;
+      cells =
+          cells_step content took after_take c.step.result c.loop-keeper.keeper c.step.new.self c.loop-keeper.store
+          c.step.new.from e.taken e.all_taken e.idle e.goes_on e.down e.ended e.cells some inv.cells;
       same = e.cells ∙ inv.same;
       ticks = tick_step c.step.result c.args.keeper.now c.loop-keeper.keeper c.step.new.self e.idle e.goes_on e.down e.ended some inv.ticks;
       live = live_step content took after_take c.step.result c.loop-keeper.keeper c.step.new.self c.loop-keeper.store c.step.new.from e.taken ∙ inv.live;
-      faults = round_faults c.step.result c.args.keeper.now.phase c.loop-keeper.keeper c.step.new.self.phase (g.D.Disk.faults c.args.image_a.now) (g.D.Disk.faults c.loop-keeper.image_a) (g.D.Disk.faults c.step.new.image_a)
+      faults =
+          round_faults c.step.result c.args.keeper.now.phase c.loop-keeper.keeper c.step.new.self.phase
+          (g.D.Disk.faults c.args.image_a.now) (g.D.Disk.faults c.loop-keeper.image_a) (g.D.Disk.faults c.step.new.image_a)
           (g.D.Disk.faults c.args.image_b.now) (g.D.Disk.faults c.loop-keeper.image_b) (g.D.Disk.faults c.step.new.image_b) inv.faults some e.down e.cause;
       goes = λ honest first ticks acknowledged journal queue r.
           round_steps content took after_take g.D.Disk.content g.D.Disk.may_leave c.worlds_go_on.ensures c.loop-keeper.keeper c.step.new.self c.loop-keeper.store c.step.new.from
@@ -29,4 +33,5 @@ loop-keeper-preserved g c =
 pub loop-keeper-smaller : goal.loop-keeper-smaller
 loop-keeper-smaller g c =
     let e = c.step.ensures in
-    smaller_step g.C.Capture.content g.C.Taker.took g.met.C.Capture.after_take c.step.result c.loop-keeper.keeper c.step.new.self c.loop-keeper.store c.step.new.from e.idle e.down e.working e.ended (omega (arith, c.left.ensures, c.loop-keeper-test.true)) c.loop-keeper.invariant.cells
+    smaller_step g.C.Capture.content g.C.Taker.took g.met.C.Capture.after_take c.step.result c.loop-keeper.keeper c.step.new.self
+    c.loop-keeper.store c.step.new.from e.idle e.down e.working e.ended (omega (arith, c.left.ensures, c.loop-keeper-test.true)) c.loop-keeper.invariant.cells

@@ -14,7 +14,8 @@ loop-a-preserved g c =
     let items = c.args.actions.now in
     let i = c.loop-a.a-index in
     let writes : writes_of (g.C.Cells.words c.loop-a.c) (get_or items i (Set 0 0)) ≡ change_writes (get_or items i (Set 0 0)) c.in-Ok.change = search (rules, c.decided.ensures.writes, c.in-Ok.is) in
-    let accepted : effect (g.C.Cells.words c.loop-a.c) (get_or items i (Set 0 0)) ≡ Ok (g.C.Cells.words c.put.new.c) = search (rules, c.decided.ensures.refuses, writes, c.in-Ok.is, c.put.ensures.words, c.decided.ensures.unchanged) in
+    let accepted : effect (g.C.Cells.words c.loop-a.c) (get_or items i (Set 0 0))
+    ≡ Ok (g.C.Cells.words c.put.new.c) = search (rules, c.decided.ensures.refuses, writes, c.in-Ok.is, c.put.ensures.words, c.decided.ensures.unchanged) in
     record {
       done = done_next _ _ _ items i (Set 0 0) c.loop-a-test.true inv.done accepted;
       rest = rw (inv.rest) (rest_next _ _ items i (Set 0 0) c.loop-a-test.true accepted);

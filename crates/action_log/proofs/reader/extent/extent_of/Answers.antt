@@ -24,4 +24,5 @@ returns-clause-some c =
     subst (λ (n : ℕ). AreLeading format n (drop FIRST_GROUP bytes) leads.0 behind) as_most
     (subst (λ (l : List ℕ). AreLeading format c.min-most.result l leads.0 behind) (from_place FIRST_GROUP bytes) leads.1) in
     extent_by bytes format base c.behind_groups-ticks.result.0 leads.0 behind c.is_shut.result
-    (λ i. Fits-lt-pow (c.type_inv.bytes i)) c.if-bytes-lt-HEADER_BYTES.false c.if-bytes-ne-OPEN_GATE.false (sym c.in_ok-format.ensures) c.if-base-gt-TICK_MAX.false there leads.2 c.is_shut.ensures.shut c.is_shut.ensures.not_shut
+    (λ i. Fits-lt-pow (c.type_inv.bytes i)) c.if-bytes-lt-HEADER_BYTES.false c.if-bytes-ne-OPEN_GATE.false
+    (sym c.in_ok-format.ensures) c.if-base-gt-TICK_MAX.false there leads.2 c.is_shut.ensures.shut c.is_shut.ensures.not_shut

@@ -18,7 +18,8 @@ loop-group-init c = record {
 pub returns-in_err-ticks-clause-none : goal.returns-in_err-ticks-clause-none
 returns-in_err-ticks-clause-none c =
     let read = c.loop-group.invariant.so_far in
-    rw c.from_residual.ensures (λ groups e. (let none = read_to_bad c.args.format c.args.bytes.now read.done c.loop-group.rest.now c.in-Some.group.now read.so_far c.in-Some.ensures.gate c.in_err-ticks.ensures.none in absurd cc))
+    rw c.from_residual.ensures (λ groups e.
+    (let none = read_to_bad c.args.format c.args.bytes.now read.done c.loop-group.rest.now c.in-Some.group.now read.so_far c.in-Some.ensures.gate c.in_err-ticks.ensures.none in absurd cc))
 
 pub returns-then-ticks-most-clause-none : goal.returns-then-ticks-most-clause-none
 returns-then-ticks-most-clause-none c =
@@ -54,5 +55,11 @@ loop-group-preserved c =
 
 pub returns-clause-some : goal.returns-clause-some
 returns-clause-some c =
-    let read = c.loop-group.invariant.so_far in
-    (read.done, read_to_end c.args.format c.args.bytes.now read.done c.loop-group.rest.now read.so_far c.in_default.ensures.ends, read.groups_are, read.ticks_are, c.loop-group.invariant.few, read.actions_are)
+    let read = c.loop-group.invariant.so_far in (
+      read.done,
+      read_to_end c.args.format c.args.bytes.now read.done c.loop-group.rest.now read.so_far c.in_default.ensures.ends,
+      read.groups_are,
+      read.ticks_are,
+      c.loop-group.invariant.few,
+      read.actions_are,
+    )

@@ -26,7 +26,9 @@ loop-preserved c =
     let tick = c.in_ok-more.ensures.some in
     let so_far = c.loop.invariant in record {
       ticks = so_far.ticks ++ tick.0 ∷ [];
-      read = read_next (tick_at c.args.format) c.in_ok-count.count c.loop.counter so_far.ticks c.in_ok-count.rest.now c.loop.rest.now c.in_ok-more.next.now tick.0 (omega (arith, c.loop-test.true)) tick.1 so_far.read;
+      read =
+          read_next (tick_at c.args.format) c.in_ok-count.count c.loop.counter so_far.ticks c.in_ok-count.rest.now c.loop.rest.now
+          c.in_ok-more.next.now tick.0 (omega (arith, c.loop-test.true)) tick.1 so_far.read;
       actions_are = omega (arith, length-actions_of-with so_far.ticks tick.0, so_far.actions_are, tick.2);
       few = omega (arith, so_far.few, c.in_ok-more.ensures.most);
     }
@@ -35,7 +37,8 @@ pub returns-clause-some : goal.returns-clause-some
 returns-clause-some c =
     let so_far = c.loop.invariant in (
       so_far.ticks,
-      c.in_ok-count.ensures.some c.args.format ∙ read_all (tick_at c.args.format) c.in_ok-count.count c.loop.counter so_far.ticks c.in_ok-count.rest.now c.loop.rest.now (omega (arith, c.loop-test.false)) so_far.read,
+      c.in_ok-count.ensures.some c.args.format ∙ read_all (tick_at c.args.format) c.in_ok-count.count c.loop.counter so_far.ticks
+          c.in_ok-count.rest.now c.loop.rest.now (omega (arith, c.loop-test.false)) so_far.read,
       omega (arith, so_far.read.so_many, so_far.read.within, c.loop-test.false),
       so_far.actions_are,
     )

@@ -18,13 +18,17 @@ returns-in_err-_action-clause-none c =
 pub loop-preserved : goal.loop-preserved
 loop-preserved c =
     let read = c.loop.invariant in
-    let action = c.in_ok-_action._action in
-    (read.0 ++ action ∷ [], read_next (action_at c.args.format) c.in_ok-count.count c.loop.counter read.0 c.in_ok-count.rest.now c.loop.rest.now c.in_ok-_action.next.now action (omega (arith, c.loop-test.true)) (sym c.in_ok-_action.ensures) read.1)
+    let action = c.in_ok-_action._action in (
+      read.0 ++ action ∷ [],
+      read_next (action_at c.args.format) c.in_ok-count.count c.loop.counter read.0 c.in_ok-count.rest.now
+          c.loop.rest.now c.in_ok-_action.next.now action (omega (arith, c.loop-test.true)) (sym c.in_ok-_action.ensures) read.1,
+    )
 
 pub returns-clause-some : goal.returns-clause-some
 returns-clause-some c =
     let read = c.loop.invariant in (
       read.0,
-      c.in_ok-count.ensures.some c.args.format ∙ read_all (action_at c.args.format) c.in_ok-count.count c.loop.counter read.0 c.in_ok-count.rest.now c.loop.rest.now (omega (arith, c.loop-test.false)) read.1,
+      c.in_ok-count.ensures.some c.args.format ∙ read_all (action_at c.args.format) c.in_ok-count.count c.loop.counter read.0
+          c.in_ok-count.rest.now c.loop.rest.now (omega (arith, c.loop-test.false)) read.1,
       omega (arith, read.1.so_many, read.1.within, c.loop-test.false),
     )

@@ -21,7 +21,12 @@ returns-in_err-rest-clause-refused c =
     let so_far = c.loop.invariant in
     rw (p.1, p.2) (elim c.in_err-rest.ensures.refused [
       | inl memory ↦ inl memory
-      | inr bad ↦ inr (bad.0, c.in-Some.ensures.some c.args.format ∙ read_none (tick_at c.args.format) c.in-Some.count c.loop.counter so_far.ticks c.in-Some.rest.now c.loop.rest.now (omega (arith, c.loop-test.true)) bad.1 so_far.read)
+      | inr bad
+          ↦ inr (
+            bad.0,
+            c.in-Some.ensures.some c.args.format ∙ read_none (tick_at c.args.format) c.in-Some.count c.loop.counter
+                so_far.ticks c.in-Some.rest.now c.loop.rest.now (omega (arith, c.loop-test.true)) bad.1 so_far.read,
+          )
     ])
 
 pub loop-preserved : goal.loop-preserved
@@ -29,7 +34,9 @@ loop-preserved c =
     let so_far = c.loop.invariant in
     let tick = c.in_ok-rest.ensures.read in record {
       ticks = so_far.ticks ++ tick.0 ∷ [];
-      read = read_next (tick_at c.args.format) c.in-Some.count c.loop.counter so_far.ticks c.in-Some.rest.now c.loop.rest.now c.in_ok-rest.rest.now tick.0 (omega (arith, c.loop-test.true)) tick.1 so_far.read;
+      read =
+          read_next (tick_at c.args.format) c.in-Some.count c.loop.counter so_far.ticks c.in-Some.rest.now c.loop.rest.now
+          c.in_ok-rest.rest.now tick.0 (omega (arith, c.loop-test.true)) tick.1 so_far.read;
       added = added_then so_far.ticks (tick.0 ∷ []) _ _ _ _ _ _ so_far.added tick.2;
     }
 
@@ -37,6 +44,7 @@ pub returns-clause-read : goal.returns-clause-read
 returns-clause-read c =
     let so_far = c.loop.invariant in (
       so_far.ticks,
-      c.in-Some.ensures.some c.args.format ∙ read_all (tick_at c.args.format) c.in-Some.count c.loop.counter so_far.ticks c.in-Some.rest.now c.loop.rest.now (omega (arith, c.loop-test.false)) so_far.read,
+      c.in-Some.ensures.some c.args.format ∙ read_all (tick_at c.args.format) c.in-Some.count c.loop.counter so_far.ticks
+          c.in-Some.rest.now c.loop.rest.now (omega (arith, c.loop-test.false)) so_far.read,
       so_far.added,
     )

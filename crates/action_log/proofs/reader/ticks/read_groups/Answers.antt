@@ -21,7 +21,12 @@ returns-in_err-rest-clause-refused c =
     let read = c.loop-group.invariant in
     rw (p.1, p.2) (elim c.in_err-rest.ensures.refused [
       | inl memory ↦ inl memory
-      | inr bad ↦ inr (bad.0, ticks_by c.args.format c.args.bytes.now None (read_to_bad c.args.format c.args.bytes.now read.done c.loop-group.rest.now c.in-Some.group.now read.so_far c.in-Some.ensures.gate bad.1))
+      | inr bad
+          ↦ inr (
+            bad.0,
+            ticks_by c.args.format c.args.bytes.now None
+                (read_to_bad c.args.format c.args.bytes.now read.done c.loop-group.rest.now c.in-Some.group.now read.so_far c.in-Some.ensures.gate bad.1),
+          )
     ])
 
 pub loop-group-smaller : goal.loop-group-smaller
@@ -36,7 +41,11 @@ loop-group-preserved c =
     let group = c.in_ok-rest.ensures.read in
     record {
       done = read.done ++ group.0 ∷ [];
-      added = subst (λ (l : List Tick). AreAdded l c.args.actions.now.items c.args.ends.now.items c.read_group.new.actions.items c.read_group.new.ends.items) (sym (joined_with read.done group.0)) (added_then (joined read.done) group.0 _ _ _ _ _ _ read.added group.2);
+      added =
+          subst
+          (λ (l : List Tick).
+          AreAdded l c.args.actions.now.items c.args.ends.now.items c.read_group.new.actions.items c.read_group.new.ends.items)
+          (sym (joined_with read.done group.0)) (added_then (joined read.done) group.0 _ _ _ _ _ _ read.added group.2);
       so_far = (read_to_next c.args.format c.args.bytes.now read.done c.loop-group.rest.now c.in-Some.group.now group.0 c.in_ok-rest.rest.now read.so_far c.in-Some.ensures.gate group.1).0;
     }
 

@@ -20,7 +20,8 @@ returns-in_default-read_action-clause-refused c =
     inr (
       refl,
       c.in-Some.ensures.some c.args.format
-          ∙ read_none (action_at c.args.format) c.in-Some.count c.loop.counter so_far.tick c.in-Some.rest.now c.loop.rest.now (omega (arith, c.loop-test.true)) (sym c.in_default-read_action.ensures) so_far.read,
+          ∙ read_none (action_at c.args.format) c.in-Some.count c.loop.counter so_far.tick c.in-Some.rest.now c.loop.rest.now
+          (omega (arith, c.loop-test.true)) (sym c.in_default-read_action.ensures) so_far.read,
     )
 
 pub loop-preserved : goal.loop-preserved
@@ -30,7 +31,9 @@ loop-preserved c =
       room = omega (arith, c.loop.invariant.room, c.loop-test.true, c.push_reserved.ensures.capacity, ap length c.push_reserved.ensures.items, length-append c.loop.actions.items (action ∷ []));
       read = record {
         tick = so_far.tick ++ action ∷ [];
-        read = read_next (action_at c.args.format) c.in-Some.count c.loop.counter so_far.tick c.in-Some.rest.now c.loop.rest.now c.in-Some-read_action.next.now action (omega (arith, c.loop-test.true)) (sym c.in-Some-read_action.ensures) so_far.read;
+        read =
+            read_next (action_at c.args.format) c.in-Some.count c.loop.counter so_far.tick c.in-Some.rest.now c.loop.rest.now
+            c.in-Some-read_action.next.now action (omega (arith, c.loop-test.true)) (sym c.in-Some-read_action.ensures) so_far.read;
         all_are = c.push_reserved.ensures.items ∙ ap (λ l. l ++ action ∷ []) so_far.all_are ∙ append_assoc c.args.actions.now.items so_far.tick (action ∷ []);
       };
     }
@@ -40,6 +43,7 @@ returns-clause-read c =
     let so_far = c.loop.invariant.read in
     let end : c.len.result ≡ length c.loop.actions.items = search rules in (
       so_far.tick,
-      c.in-Some.ensures.some c.args.format ∙ read_all (action_at c.args.format) c.in-Some.count c.loop.counter so_far.tick c.in-Some.rest.now c.loop.rest.now (omega (arith, c.loop-test.false)) so_far.read,
+      c.in-Some.ensures.some c.args.format ∙ read_all (action_at c.args.format) c.in-Some.count c.loop.counter so_far.tick
+          c.in-Some.rest.now c.loop.rest.now (omega (arith, c.loop-test.false)) so_far.read,
       added_tick so_far.tick c.args.actions.now.items c.loop.actions.items c.args.ends.now.items c.push.new.self.items c.len.result so_far.all_are end c.in_ok-push.ensures.items,
     )

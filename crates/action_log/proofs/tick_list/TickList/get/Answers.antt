@@ -17,7 +17,8 @@ part-requires-clause-forward c =
 pub part-requires-clause-within : goal.part-requires-clause-within
 part-requires-clause-within c =
     let list = c.self.invariant in
-    let last = (place_in list.0 c.self.inside.actions.items c.self.inside.ends.items c.args.i c.start_of-start.result c.in_ok-end.field-0.now list.1 (search rules) (search rules) (search rules)).last in
+    let last = (place_in list.0 c.self.inside.actions.items c.self.inside.ends.items c.args.i c.start_of-start.result
+    c.in_ok-end.field-0.now list.1 (search rules) (search rules) (search rules)).last in
     search rules
 
 pub returns-clause-some : goal.returns-clause-some

@@ -19,11 +19,14 @@ pub returns-then-is_full-clause-too_long : goal.returns-then-is_full-clause-too_
 returns-then-is_full-clause-too_long c =
     let old : Reading = record { requests = c.self.inside.batch.list; kept = c.self.inside.line } in
     let means : KeptMeans Means old.kept c.read_kept-meaning.result = rw (← c.bytes.ensures) c.read_kept-meaning.ensures in
-    λ _ before begun. begun_too_much before old c.read_kept-meaning.result c.in-Some.request means (sym c.in-Some.ensures) (c.if-is_full.ensures.0 refl) (subst (IsBegun before) (sym c.self.view_is) begun)
+    λ _ before begun. begun_too_much before old c.read_kept-meaning.result c.in-Some.request means (sym c.in-Some.ensures)
+    (c.if-is_full.ensures.0 refl) (subst (IsBegun before) (sym c.self.view_is) begun)
 
 pub returns-clause-more : goal.returns-clause-more
 returns-clause-more c =
     let old : Reading = record { requests = c.self.inside.batch.list; kept = c.self.inside.line } in
     let new : Reading = record { requests = c.push_reserved.new.self.list; kept = c.clear.new.self } in
     let means : KeptMeans Means old.kept c.read_kept-meaning.result = rw (← c.bytes.ensures) c.read_kept-meaning.ensures in
-    λ _ before begun. begun_more before old new c.read_kept-meaning.result c.in-Some.request means (sym c.in-Some.ensures) (not_full _ c.if-is_full.ensures) c.push_reserved.ensures.list c.clear.ensures (subst (IsBegun before) (sym c.self.view_is) begun)
+    λ _ before begun.
+    begun_more before old new c.read_kept-meaning.result c.in-Some.request means (sym c.in-Some.ensures)
+    (not_full _ c.if-is_full.ensures) c.push_reserved.ensures.list c.clear.ensures (subst (IsBegun before) (sym c.self.view_is) begun)

@@ -30,7 +30,8 @@ returns-in-Err-clause-fails c =
     let same = c.in-Err.ensures in
     rw c.failed.ensures.err
     (c.failed.ensures.file
-    ∙ ap after_fault (same_file _ _ (same.durable ∙ ap (λ file. file.durable) is) (same.same_content ∙ ap (λ file. file.content) is) (same.same_marks ∙ ap (λ file. file.unsynced) is) (ap (λ file. file.faults) is)))
+    ∙ ap after_fault
+    (same_file _ _ (same.durable ∙ ap (λ file. file.durable) is) (same.same_content ∙ ap (λ file. file.content) is) (same.same_marks ∙ ap (λ file. file.unsynced) is) (ap (λ file. file.faults) is)))
 
 pub returns-in-Err-clause-called : goal.returns-in-Err-clause-called
 returns-in-Err-clause-called c = rw c.failed.ensures.err (rw c.failed.ensures.err at (returns-in-Err-clause-fails c))
@@ -41,6 +42,7 @@ invariant_of-self-inside c =
     let wrote = c.in-Ok.ensures in
     let inside : c.args.at ≤ length file.content.items = omega (arith, c.requires, ap (λ state. length state.content) c.self.view_is) in (
       rw (wrote.durable, wrote.content, wrote.marks, c.min-self-inside.ensures)
-          (kept_written file.durable.items file.content.items file.unsynced.items file.first_unsynced _ _ c.args.at c.args.bytes.now inside (λ i. omega (arith, c.type_inv.bytes i)) file.kept wrote.room),
+          (kept_written file.durable.items file.content.items file.unsynced.items file.first_unsynced _ _ c.args.at
+          c.args.bytes.now inside (λ i. omega (arith, c.type_inv.bytes i)) file.kept wrote.room),
       tt,
     )

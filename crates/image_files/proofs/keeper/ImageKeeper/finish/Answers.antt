@@ -15,7 +15,8 @@ returns-clause-opened g c =
     record {
       fits = λ honest newest fits. rw (returns-clause-ok g c) (opened_fits c.args.self.now file newest c.requires.phase fits new (same honest));
       opened = λ honest newest fits.
-          opened_image c.args.self.now file newest c.requires.phase fits new (same honest) after (c.in_default.ensures.durable honest) c.self.inside.tick (ap (λ (k : Progress). k.tick) c.self.view_is);
+          opened_image c.args.self.now file newest c.requires.phase fits new (same honest) after
+          (c.in_default.ensures.durable honest) c.self.inside.tick (ap (λ (k : Progress). k.tick) c.self.view_is);
     }
 
 pub returns-in-Err-clause-goes_on : goal.returns-in-Err-clause-goes_on

@@ -16,14 +16,18 @@ play-requires-clause-none g c =
 pub returns-then-is_down-clause-rest : goal.returns-then-is_down-clause-rest
 returns-then-is_down-clause-rest g c =
     let p = c.in_ok-play.ensures.plays in
-    played_rests g.C.Capture.content g.D.Disk.content g.D.Disk.may_leave g.D.Disk.honest c.args.self.now.engine c.play.new.engine c.write_log.new.self c.args.self.now.files c.write_log.new.files c.args.b.now.list c.requires p
-    c.write_log.ensures.same c.write_log.ensures.same_files c.write_log.ensures.log (c.write_log.ensures.started (ap (λ (e : Engine g.row.C.Denot). e.log.starting) p.is ∙ c.requires.started)) c.write_log.ensures.rests
+    played_rests g.C.Capture.content g.D.Disk.content g.D.Disk.may_leave g.D.Disk.honest c.args.self.now.engine c.play.new.engine
+    c.write_log.new.self c.args.self.now.files c.write_log.new.files c.args.b.now.list c.requires p
+    c.write_log.ensures.same c.write_log.ensures.same_files c.write_log.ensures.log
+    (c.write_log.ensures.started (ap (λ (e : Engine g.row.C.Denot). e.log.starting) p.is ∙ c.requires.started)) c.write_log.ensures.rests
 
 pub checkpoint_if_due-requires-clause-rest : goal.checkpoint_if_due-requires-clause-rest
 checkpoint_if_due-requires-clause-rest g c =
     let p = c.in_ok-play.ensures.plays in
-    played_rests g.C.Capture.content g.D.Disk.content g.D.Disk.may_leave g.D.Disk.honest c.args.self.now.engine c.play.new.engine c.write_log.new.self c.args.self.now.files c.write_log.new.files c.args.b.now.list c.requires p
-    c.write_log.ensures.same c.write_log.ensures.same_files c.write_log.ensures.log (c.write_log.ensures.started (ap (λ (e : Engine g.row.C.Denot). e.log.starting) p.is ∙ c.requires.started)) c.write_log.ensures.rests
+    played_rests g.C.Capture.content g.D.Disk.content g.D.Disk.may_leave g.D.Disk.honest c.args.self.now.engine c.play.new.engine
+    c.write_log.new.self c.args.self.now.files c.write_log.new.files c.args.b.now.list c.requires p
+    c.write_log.ensures.same c.write_log.ensures.same_files c.write_log.ensures.log
+    (c.write_log.ensures.started (ap (λ (e : Engine g.row.C.Denot). e.log.starting) p.is ∙ c.requires.started)) c.write_log.ensures.rests
 
 pub returns-then-is_down-clause-refused : goal.returns-then-is_down-clause-refused
 returns-then-is_down-clause-refused g c =
@@ -44,7 +48,8 @@ returns-then-is_down-clause-refused g c =
         serves = λ honest first ticks f. record {
           started = started;
           follows = c.write_log.ensures.follows honest first (ticks ++ accepted_of requests (g.C.Capture.content old.engine.store).live ∷ []) old.acked
-              (tick_follows g.C.Capture.content g.D.Disk.content g.D.Disk.may_leave c.worlds_go_on.ensures c.answers_are_ticks.ensures.accepted old.engine played old.files requests first ticks old.acked c.requires.started p f.follows);
+              (tick_follows g.C.Capture.content g.D.Disk.content g.D.Disk.may_leave c.worlds_go_on.ensures
+              c.answers_are_ticks.ensures.accepted old.engine played old.files requests first ticks old.acked c.requires.started p f.follows);
         };
       };
       is = refl;
@@ -67,21 +72,31 @@ returns-clause-acknowledged g c =
     let started = c.write_log.ensures.started (ap (λ (e : Engine g.row.C.Denot). e.log.starting) p.is ∙ c.requires.started) in
     let rests = no_work logged.log logged.queue.items c.write_log.ensures.rests (sym c.if-is_down.ensures) in
     let follows = λ (honest : IsTrue g.D.Disk.honest) (first : List ℕ) (ticks : List (List Action)) (f : Serves g.C.Capture.content g.D.Disk.content g.D.Disk.may_leave g.D.Disk.honest old first ticks).
-    all_follows g.C.Capture.content g.D.Disk.content g.D.Disk.may_leave c.worlds_go_on.ensures c.log_outcomes.ensures.ready logged c.write_log.new.files first (ticks ++ accepted_of requests live ∷ []) old.acked started rests
+    all_follows g.C.Capture.content g.D.Disk.content g.D.Disk.may_leave c.worlds_go_on.ensures c.log_outcomes.ensures.ready logged
+    c.write_log.new.files first (ticks ++ accepted_of requests live ∷ []) old.acked started rests
     (c.write_log.ensures.follows honest first (ticks ++ accepted_of requests live ∷ []) old.acked
-    (tick_follows g.C.Capture.content g.D.Disk.content g.D.Disk.may_leave c.worlds_go_on.ensures c.answers_are_ticks.ensures.accepted old.engine played old.files requests first ticks old.acked c.requires.started p f.follows)) in
+    (tick_follows g.C.Capture.content g.D.Disk.content g.D.Disk.may_leave c.worlds_go_on.ensures
+    c.answers_are_ticks.ensures.accepted old.engine played old.files requests first ticks old.acked c.requires.started p f.follows)) in
     record {
       plays = record {
         allowed = sym c.batch_refusal.ensures.refusal ∙ c.in_default.is;
         ended = c.checkpoint_if_due.ensures.ended ∙ ended;
         words = c.checkpoint_if_due.ensures.live ∙ (ap (λ (e : Engine g.row.C.Denot). (g.C.Capture.content e.store).live) c.write_log.ensures.same ∙ p.live);
-        same = (ap (λ (s : SerialState g.row.C.Denot g.row.D.Denot). s.every) c.checkpoint_if_due.ensures.same, ap (λ (s : SerialState g.row.C.Denot g.row.D.Denot). s.recovered) c.checkpoint_if_due.ensures.same, c.checkpoint_if_due.ensures.cells ∙ (ap (λ (e : Engine g.row.C.Denot). e.images.cells) c.write_log.ensures.same ∙ ap (λ (e : Engine g.row.C.Denot). e.images.cells) p.is));
-        serves = λ honest first ticks f. c.checkpoint_if_due.ensures.serves honest first (ticks ++ accepted_of requests live ∷ []) (record { started = started; follows = follows honest first ticks f });
+        same = (
+          ap (λ (s : SerialState g.row.C.Denot g.row.D.Denot). s.every) c.checkpoint_if_due.ensures.same,
+          ap
+              (λ (s : SerialState g.row.C.Denot g.row.D.Denot). s.recovered) c.checkpoint_if_due.ensures.same,
+          c.checkpoint_if_due.ensures.cells ∙ (ap (λ (e : Engine g.row.C.Denot). e.images.cells) c.write_log.ensures.same ∙ ap (λ (e : Engine g.row.C.Denot). e.images.cells) p.is),
+        );
+        serves =
+            λ honest first ticks f. c.checkpoint_if_due.ensures.serves honest first (ticks ++ accepted_of requests live ∷ []) (record { started = started; follows = follows honest first ticks f });
       };
       acked = ap (λ (s : SerialState g.row.C.Denot g.row.D.Denot). s.acked) c.checkpoint_if_due.ensures.same ∙ sym c.checkpoint_if_due.ensures.ended;
       since = elim c.checkpoint_if_due.ensures.since [
         | inl same ↦ inl (same ∙ since)
         | inr marked ↦ inr (marked.0, omega (arith, marked.1, since))
       ];
-      image = λ honest first ticks f due. c.checkpoint_if_due.ensures.image honest first (ticks ++ accepted_of requests live ∷ []) (record { started = started; follows = follows honest first ticks f }) (omega (arith, due, since));
+      image =
+          λ honest first ticks f due. c.checkpoint_if_due.ensures.image honest first (ticks ++ accepted_of requests live ∷ [])
+          (record { started = started; follows = follows honest first ticks f }) (omega (arith, due, since));
     }

@@ -14,5 +14,8 @@ returns-in-Ok-clause-opened g c = λ honest.
       acked = s.ended;
       serves = λ first ticks acknowledged synced sound.
           (let f = s.follows first ticks acknowledged synced sound in
-          record { started = c.in-Ok.ensures.rest.started; follows = subst (λ n. Follows g.C.Capture.content g.D.Disk.content g.D.Disk.may_leave c.in-Ok.engine c.open_engine.new.files first (take s.recovery.tick ticks) n) (sym s.ended) f });
+          record {
+            started = c.in-Ok.ensures.rest.started;
+            follows = subst (λ n. Follows g.C.Capture.content g.D.Disk.content g.D.Disk.may_leave c.in-Ok.engine c.open_engine.new.files first (take s.recovery.tick ticks) n) (sym s.ended) f;
+          });
     }

@@ -17,7 +17,8 @@ invariant_of-self g c =
     let ok = c.self.invariant.0 in
     let inside : i < vec_len (arc_value c.self.inside.table).shared.key.live = omega (arith, ap (λ (z : FrontState). length z.live) c.self.view_is, ok.fits.0, c.requires.inside) in
     let read : c.index.result.now ≡ get_or marks (i / 64) 0 = get_or_read marks (i / 64) c.index.result.now (omega (arith, ok.fits.2, ap length ok.marks_are, inside)) c.index.ensures 0 in
-    let put : c.index-2.result.now ≡ get_or away (i / 64) 0 = get_or_read away (i / 64) c.index-2.result.now (omega (arith, (ok.away_packed c.requires.kind).words_length, inside)) c.index-2.ensures 0 in
+    let put : c.index-2.result.now ≡ get_or away (i / 64) 0 = get_or_read away (i / 64) c.index-2.result.now
+    (omega (arith, (ok.away_packed c.requires.kind).words_length, inside)) c.index-2.ensures 0 in
     let differs : get_or marks (i / 64) 0 ≢ w = λ same. not_apart c.has_bit-second.result
     (c.has_bit-second.ensures ∙ (ap (λ (z : ℕ). is_set z (i % 64)) (read ∙ same) ∙ c.with_bit.ensures.here)) in
     let others : (j : ℕ) → j < 64 → j ≢ i % 64 → is_set w j ≡ is_set (get_or away (i / 64) 0) j = λ j l ne. c.with_bit.ensures.others j l ne ∙ ap (λ (z : ℕ). is_set z j) put in
@@ -30,4 +31,6 @@ invariant_of-self g c =
     )
 
 pub returns-clause-touched : goal.returns-clause-touched
-returns-clause-touched g c = zigzag_touched _ _ _ _ c.store_value.new.seat _ _ _ _ c.self.invariant.0 _ c.args.i c.args.v c.has_bit-second.result c.requires.kind c.store_value.ensures ∙ ap (λ (w : FrontState). set w.touched c.args.i true) c.self.view_is
+returns-clause-touched g c =
+    zigzag_touched _ _ _ _ c.store_value.new.seat _ _ _ _ c.self.invariant.0 _ c.args.i c.args.v c.has_bit-second.result
+    c.requires.kind c.store_value.ensures ∙ ap (λ (w : FrontState). set w.touched c.args.i true) c.self.view_is

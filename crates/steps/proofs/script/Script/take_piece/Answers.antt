@@ -21,7 +21,10 @@ returns-in_err-write_long-in-Ok-clause-fault g c =
       inr fault.0,
       inv.0 ++ fault.1,
       Appends-both _ _ _ _ _ inv.1 fault.3,
-      λ left. rw (fault.0) (breaks_writing {middle = c.take_byte.new.self} piece left (suc i) inv.0 c.take_byte.new.text.items fault.1 (rw (take-suc piece i 0 c.loop-byte-test.true) (leads_more inv.0 c.loop-byte.text.items step.0 c.take_byte.new.text.items inv.2 step.2 step.1)) fault.2),
+      λ left.
+          rw (fault.0)
+          (breaks_writing {middle = c.take_byte.new.self} piece left (suc i) inv.0 c.take_byte.new.text.items fault.1
+          (rw (take-suc piece i 0 c.loop-byte-test.true) (leads_more inv.0 c.loop-byte.text.items step.0 c.take_byte.new.text.items inv.2 step.2 step.1)) fault.2),
     )
 
 pub loop-byte-preserved : goal.loop-byte-preserved

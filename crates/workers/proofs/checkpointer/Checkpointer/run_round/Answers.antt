@@ -9,7 +9,9 @@ use Rattle.workers.proofs.checkpointer.Checkpointer.run_round.Goals as goal
 pub loop-self-init : goal.loop-self-init
 loop-self-init g c = record {
   keeps = record { pair = refl; cells = refl; word = refl; opening = refl };
-  goes = goes_none g.D.Disk.faults ((place : Place) × MayGo g.G.Gate.answers place) ((place : Place) × MayStick g.G.Gate.answers place) c.args.self.now c.requires.round.0 c.requires.round.1 c.requires.round.2 c.requires.goes_on;
+  goes =
+      goes_none g.D.Disk.faults ((place : Place) × MayGo g.G.Gate.answers place)
+      ((place : Place) × MayStick g.G.Gate.answers place) c.args.self.now c.requires.round.0 c.requires.round.1 c.requires.round.2 c.requires.goes_on;
   files = inl (refl, refl);
 }
 
@@ -27,6 +29,7 @@ loop-self-preserved g c =
     record {
       keeps = keeps_then first mid new known.keeps e.keeps;
       goes = goes_then g.D.Disk.faults ((at : Place) × MayGo reported at) ((at : Place) × MayStick reported at) first mid new going left known.goes
-          (goes_at g.D.Disk.faults (MayGo reported place) (MayStick reported place) ((at : Place) × MayGo reported at) ((at : Place) × MayStick reported at) mid new (λ go. (place, go)) (λ stuck. (place, stuck)) e.goes);
+          (goes_at g.D.Disk.faults (MayGo reported place) (MayStick reported place) ((at : Place) × MayGo reported at)
+          ((at : Place) × MayStick reported at) mid new (λ go. (place, go)) (λ stuck. (place, stuck)) e.goes);
       files = files_then reported first.images mid.images new.images known.files (files_ask reported mid.images.keeper.phase mid.images new.images e.goes.asks e.takes);
     }

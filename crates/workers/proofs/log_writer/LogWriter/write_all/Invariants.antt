@@ -8,7 +8,15 @@ use Rattle.workers.proofs.log_writer.LogWriter.write_all.Given as goal
 
 abbrev pub invariant-loop-self : goal.invariant-loop-self
 invariant-loop-self g l = record {
-  same : l.self ≡ record l.fn.self { covers = l.self.covers; reported_down = l.self.reported_down; log = l.self.log; ring = l.self.ring; answers = l.self.answers; acked = l.self.acked; down = l.self.down };
+  same : l.self ≡ record l.fn.self {
+    covers = l.self.covers;
+    reported_down = l.self.reported_down;
+    log = l.self.log;
+    ring = l.self.ring;
+    answers = l.self.answers;
+    acked = l.self.acked;
+    down = l.self.down;
+  };
   loads : LoadsOn l.fn.self.covers l.self.covers;
   word : l.self.reported_down.pair ≡ l.fn.self.reported_down.pair;
   acked : l.fn.self.acked ≤ l.self.acked;

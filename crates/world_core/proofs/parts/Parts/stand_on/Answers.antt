@@ -15,7 +15,10 @@ returns-in_ok-parts-in-Ok-clause-stands g c =
       refl,
       refl,
       c.in-Ok.ensures.numbers.1,
-      subst (λ w. Begins c.args.cells (Some (r.slot, r.from)) r.tick w (nat_lt r.from r.tick) left.image_a.items left.image_b.items left.log_a.items left.log_b.items c.in_ok-parts-in-Ok.parts) c.deref-in-Ok.ensures.value c.in_ok-parts-in-Ok.ensures.begins,
+      subst
+          (λ w.
+          Begins c.args.cells (Some (r.slot, r.from)) r.tick w (nat_lt r.from r.tick) left.image_a.items left.image_b.items
+          left.log_a.items left.log_b.items c.in_ok-parts-in-Ok.parts) c.deref-in-Ok.ensures.value c.in_ok-parts-in-Ok.ensures.begins,
     )
 
 pub returns-in_ok-parts-in-Err-NoImage-clause-stands : goal.returns-in_ok-parts-in-Err-NoImage-clause-stands

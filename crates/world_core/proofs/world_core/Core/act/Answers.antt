@@ -11,7 +11,8 @@ kept : (g : _) (c : Joined-act g) (past : Past) → IsCoreAt past c.self.inside.
 kept g c past at =
     let none = tick_allowed c.self.inside.parts.log.starting c.self.inside.parts.log.down c.self.inside.parts.ended c.self.inside.parts.since (sym c.in_default.is ∙ c.tick_refusal.ensures.refusal) in
     elim c.match-act.branch as (λ b. IsCoreAt (past_after past (move.Act c.args.action) c.match-act.result) c.act.new.self) [
-      | in-Ok w ↦ subst (λ r. IsCoreAt (past_after past (move.Act c.args.action) r) c.act.new.self) (sym w.result-is) (action_keeps c.event_laws.ensures past c.self.inside.parts c.act.new.self c.args.action at none w.in-Ok.ensures.done)
+      | in-Ok w ↦ subst (λ r. IsCoreAt (past_after past (move.Act c.args.action) r) c.act.new.self) (sym w.result-is)
+          (action_keeps c.event_laws.ensures past c.self.inside.parts c.act.new.self c.args.action at none w.in-Ok.ensures.done)
       | in-Err w ↦ subst (λ r. IsCoreAt (past_after past (move.Act c.args.action) r) c.act.new.self) (sym w.result-is) (subst (IsCoreAt past) (sym w.in-Err.ensures.unchanged) at)
     ]
 

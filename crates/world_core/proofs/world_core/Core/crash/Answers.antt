@@ -11,7 +11,8 @@ kept : (g : _) (c : Joined-restart g) (past : Past) → IsCoreAt past c.self.ins
 kept g c past at =
     elim c.match-restart.branch as (λ b. IsCoreAt (past_after past (move.Crash c.args.left) c.match-restart.result) c.restart.new.self) [
       | in-Ok w ↦ subst (λ r. IsCoreAt (past_after past (move.Crash c.args.left) r) c.restart.new.self) (sym w.result-is)
-          (stands_keeps c.event_laws.ensures c.queue_laws.ensures c.keeper_laws.ensures c.safety_laws.ensures past c.self.inside.parts c.restart.new.self at c.args.left (c.allows.ensures.0 c.if-not-allows.false) w.in-Ok.answer w.in-Ok.ensures.stands)
+          (stands_keeps c.event_laws.ensures c.queue_laws.ensures c.keeper_laws.ensures c.safety_laws.ensures past
+          c.self.inside.parts c.restart.new.self at c.args.left (c.allows.ensures.0 c.if-not-allows.false) w.in-Ok.answer w.in-Ok.ensures.stands)
       | in-Err w ↦ subst (λ r. IsCoreAt (past_after past (move.Crash c.args.left) r) c.restart.new.self) (sym w.result-is) (subst (IsCoreAt past) (sym w.in-Err.ensures.unchanged) at)
     ]
 
@@ -27,7 +28,8 @@ exact g c past at =
     let may = c.allows.ensures.0 c.if-not-allows.false in
     elim c.match-restart.branch as (λ b. IsExact past c.self.inside.parts (move.Crash c.args.left) c.match-restart.result) [
       | in-Ok w ↦ subst (λ r. IsExact past c.self.inside.parts (move.Crash c.args.left) r) (sym w.result-is)
-          (stands_exact c.self.inside.parts c.restart.new.self c.self.inside.parts.cells left.image_a.items left.image_b.items left.log_a.items left.log_b.items may w.in-Ok.answer w.in-Ok.ensures.stands)
+          (stands_exact c.self.inside.parts c.restart.new.self c.self.inside.parts.cells left.image_a.items left.image_b.items
+          left.log_a.items left.log_b.items may w.in-Ok.answer w.in-Ok.ensures.stands)
       | in-Err w ↦ subst (λ r. IsExact past c.self.inside.parts (move.Crash c.args.left) r) (sym w.result-is)
           (refused_exact c.safety_laws.ensures past c.self.inside.parts at left.image_a.items left.image_b.items left.log_a.items left.log_b.items may w.in-Err.refusal w.in-Err.ensures.refused)
     ]

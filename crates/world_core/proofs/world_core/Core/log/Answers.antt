@@ -30,5 +30,7 @@ returns g c = record {
       (sym (waiting_is c.keeper_laws.ensures past c.self.inside.parts at) ∙ sym c.log_waits.ensures ∙ c.if-log_waits.false) c.move_log.ensures.steps));
   does = inr (subst (λ s. StepsLogKeeper c.args.fate s c.move_log.result c.move_log.new.self) c.self.view_is c.move_log.ensures.steps);
   cells = ap (λ (s : State). s.cells) c.move_log.ensures.steps.rest ∙ ap (λ (s : State). s.cells) c.self.view_is;
-  progress = subst (λ s. Progresses (move.Log c.args.fate) (answer.Log c.move_log.result) s c.move_log.new.self) c.self.view_is (log_progress c.self.inside.parts c.move_log.new.self c.args.fate c.move_log.result c.move_log.ensures.steps);
+  progress =
+      subst (λ s. Progresses (move.Log c.args.fate) (answer.Log c.move_log.result) s c.move_log.new.self) c.self.view_is
+      (log_progress c.self.inside.parts c.move_log.new.self c.args.fate c.move_log.result c.move_log.ensures.steps);
 }

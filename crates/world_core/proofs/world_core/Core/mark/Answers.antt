@@ -18,5 +18,7 @@ invariant_of-self g c = (
 )
 
 pub returns-clause-keeps : goal.returns-clause-keeps
-returns-clause-keeps g c = λ past h. mark_from c.event_laws.ensures c.queue_laws.ensures c.keeper_laws.ensures past c.self.inside.parts c.begin_round.new.self c.begin_round.result (subst (IsCoreAt past) (sym c.self.view_is) h)
+returns-clause-keeps g c =
+    λ past h. mark_from c.event_laws.ensures c.queue_laws.ensures c.keeper_laws.ensures past c.self.inside.parts
+    c.begin_round.new.self c.begin_round.result (subst (IsCoreAt past) (sym c.self.view_is) h)
     (sym c.in_default.is ∙ c.mark_refusal.ensures.refusal) c.begin_round.ensures.number c.begin_round.ensures.begun

@@ -19,7 +19,8 @@ pub returns-clause-first : goal.returns-clause-first
 returns-clause-first g c = λ starting none.
     let last = c.write_log.new.self in
     first_over last.log last.queue.items
-    (c.write_log.ensures.first (ap (λ (e : Engine g.row.C.Denot). e.log.starting) c.write_image.ensures.same ∙ starting) (ap (λ (e : Engine g.row.C.Denot). e.queue.items) c.write_image.ensures.same ∙ none))
+    (c.write_log.ensures.first (ap (λ (e : Engine g.row.C.Denot). e.log.starting) c.write_image.ensures.same ∙ starting)
+    (ap (λ (e : Engine g.row.C.Denot). e.queue.items) c.write_image.ensures.same ∙ none))
     (sym c.if-starting.ensures.starting)
 
 pub returns-clause-no_fault : goal.returns-clause-no_fault

@@ -29,7 +29,8 @@ loop-receipt-preserved-in-Some g c =
     let durable : first.number ≤ receipt = search rules in
     let next : first.number ≡ inside.given.answered + 1 = search rules in
     let popped : c.pop_front.new.self ≡ buffer front.0 inside.waiting.capacity = c.pop_front.ensures.items ∙ ap (λ (l : List Unposted). buffer (drop 1 l) inside.waiting.capacity) front.1 in
-    subst (λ (b : Buffer Unposted). Posts receipt c.args.self.now (record { waiting = b.items; room = b.capacity; answered = c.post.new.self.answered; posted = c.post.new.self.posted.tick })) (sym popped)
+    subst
+    (λ (b : Buffer Unposted). Posts receipt c.args.self.now (record { waiting = b.items; room = b.capacity; answered = c.post.new.self.answered; posted = c.post.new.self.posted.tick })) (sym popped)
     (subst (λ (a : Given). Posts receipt c.args.self.now (record { waiting = front.0; room = inside.waiting.capacity; answered = a.answered; posted = a.posted.tick })) (sym c.post.ensures)
     (posts_more receipt c.args.self.now (record { waiting = inside.waiting.items; room = inside.waiting.capacity; answered = inside.given.answered; posted = inside.given.posted.tick }) first front.0
     (subst (Posts receipt c.args.self.now) (sym c.self.view_is) c.loop-receipt.invariant) front.1 durable next))
