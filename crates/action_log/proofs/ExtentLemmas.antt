@@ -228,7 +228,7 @@ open_with bytes file format base groups rest behind has is ends long = record {
 }
 
 -- groups of an open segment
-of_open : (bytes : List ℕ) (base : ℕ) (ticks : List Tick) (s : IsOpenSegment bytes base ticks) → HasGroups bytes s.format base s.groups s.rest
+pub of_open : (bytes : List ℕ) (base : ℕ) (ticks : List Tick) (s : IsOpenSegment bytes base ticks) → HasGroups bytes s.format base s.groups s.rest
 of_open bytes base ticks s = record {
   are_groups = s.are_groups;
   spelled = s.spelled;

@@ -4,3 +4,4 @@ pub mod OutcomeLemmas
 pub mod ModelFileLemmas
 pub mod TornLemmas
 pub mod LeavingLemmas
+pub mod FaultLemmas

@@ -27,5 +27,9 @@ module _ {S : Type 0} (called : S → Call → Bool → S → Type 0) where
   wider most further zero old new le asked = asked
   wider most further (suc calls) old new le asked = (asked.0, wider most further calls old asked.0 le asked.1, (asked.2.0, asked.2.1, asks_wider most further asked.2.0 le asked.2.2, asked.2.3))
 
-  pub asked_wider : (most further : ℕ) (old new : S) → most ≤ further → OnlyAsked called most old new → OnlyAsked called further old new
+  asked_wider : (most further : ℕ) (old new : S) → most ≤ further → OnlyAsked called most old new → OnlyAsked called further old new
   asked_wider most further old new le asked = (asked.0, wider most further asked.0 old new le asked.1)
+
+  -- one more read, or none, and a wider bound
+  pub asked_on : (most further : ℕ) (old between new : S) (at count : ℕ) → OnlyAsked called most old between → most ≤ further → at + count ≤ further → (new ≡ between) ⊎ ((succeeded : Bool) × called between (Read at count) succeeded new) → OnlyAsked called further old new
+  asked_on most further old between new at count asked le within made = asked_read further old between new at count (asked_wider most further old between le asked) within made

@@ -10,6 +10,7 @@ use Rattle.file_format.specs.Gate.{HasNoShutGate}
 use Rattle.action_log.specs.declared.format.TheConstants.{HEADER_BYTES, SEGMENT_BYTES_MAX}
 use Rattle.action_log.specs.Segment.{Tick, joined, group_bytes, spelled_base, EndsGroups, OpenSegment, IsSegment, IsOpenSegment}
 use Rattle.action_log.specs.Extent.{HasGroups, HasNoGroups, IsExtent, ReadsAlike}
+use Rattle.action_log.proofs.ExtentLemmas.{of_open}
 use Rattle.image_files.specs.ImageRead.{IsFront}
 use Rattle.file_readers.specs.Reading.{IsSegmentRead}
 
@@ -193,19 +194,10 @@ module _ (whole : Whole) (cut : Cut) (bytes : List ℕ) (groups_end ticks : ℕ)
 
 -- ---- an open segment that was read has one byte after its groups, or none
 
-open_groups : (bytes : List ℕ) (base : ℕ) (ticks : List Tick) (segment : IsOpenSegment bytes base ticks) → HasGroups bytes segment.format base segment.groups segment.rest
-open_groups bytes base ticks segment = record {
-  are_groups = segment.are_groups;
-  spelled = segment.spelled;
-  long = segment.long;
-  few = omega (arith, segment.few, ap length segment.of_groups);
-  numbered = omega (arith, segment.numbered, ap length segment.of_groups);
-}
-
 pub exact_headless : (bytes : List ℕ) → HasNoGroups bytes → (base : ℕ) (ticks : List Tick) (segment : IsOpenSegment (take (length bytes) bytes) base ticks) → length segment.rest ≤ 1
 exact_headless bytes none base ticks segment =
     let same : take (length bytes) bytes ≡ bytes = take_all (length bytes) bytes (omega arith) in
-    absurd (subst HasNoGroups (sym same) none segment.format base segment.groups segment.rest (open_groups (take (length bytes) bytes) base ticks segment))
+    absurd (subst HasNoGroups (sym same) none segment.format base segment.groups segment.rest (of_open (take (length bytes) bytes) base ticks segment))
 
 -- the rest of an open segment is that of its extent
 rest_of_extent : Whole → (bytes : List ℕ) (groups_end ticks : ℕ) (ended : Bool) (x : IsExtent bytes groups_end ticks ended)

@@ -1,5 +1,5 @@
 -- The first bytes of a file that read as all of it.
-use Rattle.std.specs.Prelude.{◌≡◌, ℕ, List}
+use Rattle.std.specs.Prelude.{ℕ, List}
 use Rattle.disk_model.specs.declared.four_files.FourFiles.{FourFiles}
 use Rattle.image_files.specs.ImageRead.{IsFront, IsImageRead}
 use Rattle.action_log.specs.Extent.{ReadsAlike}

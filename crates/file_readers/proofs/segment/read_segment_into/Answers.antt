@@ -4,7 +4,7 @@ use Rattle.action_log.specs.Extent.{IsExtent}
 use Rattle.action_log.specs.Segment.{IsOpenSegment}
 use Rattle.action_log.specs.declared.format.TheConstants.{SEGMENT_BYTES_MAX}
 use Rattle.file_readers.specs.declared.segment.TheConstants.{PIECE_BYTES}
-use Rattle.file_readers.proofs.AskingLemmas.{asked_read, asked_wider}
+use Rattle.file_readers.proofs.AskingLemmas.{asked_on}
 use Rattle.file_readers.proofs.segment.read_segment_into.Goals as goal
 
 -- a place that is no further than twice as far as these bytes go, unless it is in the first piece
@@ -19,21 +19,18 @@ next_least end most next (inr long) before is =
 
 pub returns-in_err-read_forward-clause-asked : goal.returns-in_err-read_forward-clause-asked
 returns-in_err-read_forward-clause-asked g c =
-    let called = g.D.Disk.called in
     let so_far = c.loop-bytes.invariant in
-    let here = asked_wider called (length c.loop-bytes.bytes.items) SEGMENT_BYTES_MAX c.args.disk.now c.loop-bytes.disk (omega (arith, so_far.within, so_far.inside, so_far.bound)) so_far.asked in
-    asked_read called SEGMENT_BYTES_MAX c.args.disk.now c.loop-bytes.disk c.read_forward.new.disk _ _ here (omega (arith, so_far.within, so_far.inside, so_far.bound)) c.read_forward.ensures.asked
+    asked_on g.D.Disk.called (length c.loop-bytes.bytes.items) SEGMENT_BYTES_MAX c.args.disk.now c.loop-bytes.disk c.read_forward.new.disk _ _ so_far.asked
+    (omega (arith, so_far.within, so_far.inside, so_far.bound)) (omega (arith, so_far.within, so_far.inside, so_far.bound)) c.read_forward.ensures.asked
 
 pub returns-in-Some-clause-asked : goal.returns-in-Some-clause-asked
 returns-in-Some-clause-asked g c =
-    let called = g.D.Disk.called in
     let so_far = c.loop-bytes.invariant in
-    let here = asked_wider called (length c.loop-bytes.bytes.items) SEGMENT_BYTES_MAX c.args.disk.now c.loop-bytes.disk (omega (arith, so_far.within, so_far.inside, so_far.bound)) so_far.asked in
-    asked_read called SEGMENT_BYTES_MAX c.args.disk.now c.loop-bytes.disk c.read_forward.new.disk _ _ here (omega (arith, so_far.within, so_far.inside, so_far.bound)) c.read_forward.ensures.asked
+    asked_on g.D.Disk.called (length c.loop-bytes.bytes.items) SEGMENT_BYTES_MAX c.args.disk.now c.loop-bytes.disk c.read_forward.new.disk _ _ so_far.asked
+    (omega (arith, so_far.within, so_far.inside, so_far.bound)) (omega (arith, so_far.within, so_far.inside, so_far.bound)) c.read_forward.ensures.asked
 
 pub returns-in-Some-clause-no_further : goal.returns-in-Some-clause-no_further
 returns-in-Some-clause-no_further g c =
-    let called = g.D.Disk.called in
     let so_far = c.loop-bytes.invariant in
     let before = c.loop-bytes.bytes.items in
     let longer = c.in_ok-read_forward.ensures.longer in
@@ -50,12 +47,11 @@ returns-in-Some-clause-no_further g c =
     ] in
     let most = max PIECE_BYTES (2 * length c.truncate.new.self.items) in
     let within : c.loop-bytes.end ≤ most = omega (arith, piece_end c.loop-bytes.end c.in-Some.count far, count) in
-    let here = asked_wider called (length before) most c.args.disk.now c.loop-bytes.disk (omega (arith, so_far.within, within)) so_far.asked in
-    asked_read called most c.args.disk.now c.loop-bytes.disk c.read_forward.new.disk _ _ here (omega (arith, so_far.within, within)) c.read_forward.ensures.asked
+    asked_on g.D.Disk.called (length before) most c.args.disk.now c.loop-bytes.disk c.read_forward.new.disk _ _ so_far.asked
+    (omega (arith, so_far.within, within)) (omega (arith, so_far.within, within)) c.read_forward.ensures.asked
 
 pub loop-bytes-preserved : goal.loop-bytes-preserved
 loop-bytes-preserved g c =
-    let called = g.D.Disk.called in
     let so_far = c.loop-bytes.invariant in
     let before = c.loop-bytes.bytes.items in
     let longer = c.in_ok-read_forward.ensures.longer in
@@ -79,10 +75,8 @@ loop-bytes-preserved g c =
           let next = c.in_ok-read_forward.ensures.kept honest in
           record { same_content = next.same_content ∙ kept.same_content; crash = λ left h. kept.crash left (next.crash left h) });
       faults = c.in_ok-read_forward.ensures.faults ∙ so_far.faults;
-      asked = (
-          let here = asked_wider called (length before) (length c.read_forward.new.bytes.items) c.args.disk.now c.loop-bytes.disk (omega (arith, so_far.within, longer.0)) so_far.asked in
-          asked_read called (length c.read_forward.new.bytes.items) c.args.disk.now c.loop-bytes.disk c.read_forward.new.disk _ _
-          here (omega (arith, so_far.within, longer.0)) c.read_forward.ensures.asked);
+      asked = asked_on g.D.Disk.called (length before) (length c.read_forward.new.bytes.items) c.args.disk.now c.loop-bytes.disk c.read_forward.new.disk _ _ so_far.asked
+          (omega (arith, so_far.within, longer.0)) (omega (arith, so_far.within, longer.0)) c.read_forward.ensures.asked;
       pieces = inr (
         omega (arith, next, longer.0),
         (more.1.0, more.1.1, subst (λ (l : List ℕ). IsExtent l more.1.0 more.1.1 false) c.deref.ensures.value more.1.2),

@@ -1,20 +1,9 @@
-use Rattle.std.proofs.Common.{rules, ◌≡◌, ℕ, ◌+◌, [], ◌∷◌, min, lit<}
+use Rattle.std.proofs.Common.{rules, ◌≡◌}
 use Rattle.world_actions.specs.declared.refusal.Refusal.TheVariants.{Device}
-use Rattle.disk_model.specs.Disk.{last_count}
-use Rattle.disk_model.specs.FourFiles.{OneGrew}
+use Rattle.disk_model.proofs.FaultLemmas.{second_grew, third_grew, fourth_grew}
 use Rattle.action_log.specs.declared.format.TheConstants.{SEGMENT_BYTES_MAX}
 use Rattle.file_readers.proofs.AskingLemmas.{asked_none}
 use Rattle.file_readers.proofs.world_files.read_files.Goals as goal
-
--- the count of the file that failed grew, and the counts before it stay
-second_grew : (a b c d a' b' : ℕ) → a' ≡ a → b' ≡ min (b + 1) last_count → OneGrew (a ∷ b ∷ c ∷ d ∷ []) (a' ∷ b' ∷ c ∷ d ∷ [])
-second_grew a b c d a' b' first grew = record { place = 1; inside = lit< tt; grew = cc }
-
-third_grew : (a b c d a' b' c' : ℕ) → a' ≡ a → b' ≡ b → c' ≡ min (c + 1) last_count → OneGrew (a ∷ b ∷ c ∷ d ∷ []) (a' ∷ b' ∷ c' ∷ d ∷ [])
-third_grew a b c d a' b' c' first second grew = record { place = 2; inside = lit< tt; grew = cc }
-
-fourth_grew : (a b c d a' b' c' d' : ℕ) → a' ≡ a → b' ≡ b → c' ≡ c → d' ≡ min (d + 1) last_count → OneGrew (a ∷ b ∷ c ∷ d ∷ []) (a' ∷ b' ∷ c' ∷ d' ∷ [])
-fourth_grew a b c d a' b' c' d' first second third grew = record { place = 3; inside = lit< tt; grew = cc }
 
 pub returns-in_err-read_image_file-2-clause-asked : goal.returns-in_err-read_image_file-2-clause-asked
 returns-in_err-read_image_file-2-clause-asked g c = record {

@@ -1,4 +1,4 @@
-use Rattle.std.proofs.Common.{◌≡◌, ◌+◌, ◌*◌, ℕ, List, [], IsTrue, length, take, drop, ◌∙◌, ap, arith, rules}
+use Rattle.std.proofs.Common.{◌≡◌, ◌+◌, ◌*◌, ℕ, [], IsTrue, length, take, drop, ◌∙◌, ap, arith, rules}
 use Rattle.std.specs.List.{flat_map}
 use Rattle.disk_model.specs.Disk.{overwritten}
 use Rattle.file_format.specs.Number.{number_bytes}
