@@ -31,5 +31,6 @@ module _ {S : Type 0} (called : S → Call → Bool → S → Type 0) where
   asked_wider most further old new le asked = (asked.0, wider most further asked.0 old new le asked.1)
 
   -- one more read, or none, and a wider bound
-  pub asked_on : (most further : ℕ) (old between new : S) (at count : ℕ) → OnlyAsked called most old between → most ≤ further → at + count ≤ further → (new ≡ between) ⊎ ((succeeded : Bool) × called between (Read at count) succeeded new) → OnlyAsked called further old new
+  pub asked_on : (most further : ℕ) (old between new : S) (at count : ℕ) → OnlyAsked called most old between → most ≤ further
+      → at + count ≤ further → (new ≡ between) ⊎ ((succeeded : Bool) × called between (Read at count) succeeded new) → OnlyAsked called further old new
   asked_on most further old between new at count asked le within made = asked_read further old between new at count (asked_wider most further old between le asked) within made
