@@ -172,7 +172,7 @@ def try_command_lines(trial: Trial) -> None:
         (
             "create",
             f"Makes the files of a new world in a folder\n\n{make}\n",
-            "\n  its own, or another program writes this world, 22 a file already holds data: nothing\n  was written\n",
+            "\n  its own, or another program writes this world, 22 a file may hold a world: nothing\n  was written\n",
         ),
         (
             "recover",

@@ -67,7 +67,7 @@ pub enum Refusal {
     /// The greatest tick number has been reached.
     #[error("the last tick number has been given out")]
     TicksEnded,
-    /// A file of a new world already holds something.
+    /// A file of a new world may already hold one.
     #[error("a file already holds a world: choose an empty folder")]
     NotEmpty,
     /// No image of this tick, or of a later one, is open.

@@ -45,8 +45,8 @@ pub fn create<R: Files<File = File> + Clock + Print + Eprint + AllocGlobal>(
 }
 
 /// Makes the files of a world of zeros at tick 0 in the folder at this path, and prints how many
-/// cells it has. If one of the files isn't closed, it makes no file and writes none. After another
-/// failure the files that it made stay, and are named.
+/// cells it has. If one of the files isn't closed, it makes no file and writes none. If a file or
+/// memory fails later, the files that it made stay, and are named.
 pub fn create_zeros<F: Folder>(
     alloc: Global,
     folder: &mut F,

@@ -66,7 +66,7 @@ impl MadeFiles {
     }
 }
 
-/// Why a world wasn't made, and which files were. They stay, and hold no world.
+/// Why a world wasn't made, and which files were. They stay, and may recover.
 #[derive(Debug, Drop)]
 pub struct Unfinished {
     pub made: MadeFiles,

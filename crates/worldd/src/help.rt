@@ -45,7 +45,7 @@ between them, as `inspect --words` prints them. After a fault the status is 1, o
 memory or room is wanting, and the first line on standard error is `fault CODE`:
   16 FILE lists no world: the line is named, and nothing was made,
   17 there is no memory, 18 a file can't be opened or written, is no ordinary file of
-  its own, or another program writes this world, 22 a file already holds data: nothing
+  its own, or another program writes this world, 22 a file may hold a world: nothing
   was written";
 
 /// The end of `worldd recover --help`.
