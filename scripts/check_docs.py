@@ -75,6 +75,13 @@ BUDGETS = {
     ("docs/CONTRIBUTING.md",): 2_000,
     ("docs/STANDBY.md",): 1_200,
 }
+# How many columns a line of a crate has at most, and files with a help text, a table in a text or one long attribute.
+WIDTHS = {"src": 100, "specs": 100, "proofs": 200}
+WITH_TABLES = (
+    "crates/action_log/src/reader/ticks.rt",
+    "crates/measures/src/arguments.rt",
+    "crates/test_files/src/tests/recovered_cases.rt",
+)
 # The lines that state the version of this tree. Python has its own form for one that isn't released.
 VERSIONS = (
     ("crates/command_line/src/version.rt", r'pub const VERSION\w*: &str = "([^" ]*)'),
@@ -368,6 +375,16 @@ def over_budget(every: list[Page]) -> Iterator[Finding]:
             yield names[0], 1, f"{sum(found.values()):,} words in {', '.join(found)}: the budget is {budget:,}"
 
 
+def wide_lines() -> Iterator[Finding]:
+    """Lines of crates with more columns than docs/CONTRIBUTING.md allows. Texts aren't broken, nor are the tables in texts."""
+    for folder, columns in WIDTHS.items():
+        for path in sorted(TOP.glob(f"crates/*/{folder}/**/*")):
+            if path.suffix in (".rt", ".antt") and str(path.relative_to(TOP)) not in WITH_TABLES:
+                for number, line in enumerate(path.read_text().splitlines(), 1):
+                    if len(line) > columns and '"' not in line:
+                        yield str(path.relative_to(TOP)), number, f"{len(line)} columns: at most {columns} are wanted"
+
+
 def python_version(version: str) -> str:
     """A version as Python writes it."""
     return version.replace("-dev", ".dev0")
@@ -418,6 +435,7 @@ def findings() -> Iterator[Finding]:
     yield from wrong_tables(every)
     yield from wrong_promises(names)
     yield from wrong_versions()
+    yield from wide_lines()
     yield from unnamed_files(every)
     yield from over_budget(every)
 

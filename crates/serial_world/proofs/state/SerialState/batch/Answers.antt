@@ -71,7 +71,8 @@ returns-clause-acknowledged g c =
     let since : logged.since ≡ old.engine.since + 1 = ap (λ (e : Engine g.row.C.Denot). e.since) c.write_log.ensures.same ∙ ap (λ (e : Engine g.row.C.Denot). e.since) p.is in
     let started = c.write_log.ensures.started (ap (λ (e : Engine g.row.C.Denot). e.log.starting) p.is ∙ c.requires.started) in
     let rests = no_work logged.log logged.queue.items c.write_log.ensures.rests (sym c.if-is_down.ensures) in
-    let follows = λ (honest : IsTrue g.D.Disk.honest) (first : List ℕ) (ticks : List (List Action)) (f : Serves g.C.Capture.content g.D.Disk.content g.D.Disk.may_leave g.D.Disk.honest old first ticks).
+    let follows = λ (honest : IsTrue g.D.Disk.honest) (first : List ℕ) (ticks : List (List Action))
+    (f : Serves g.C.Capture.content g.D.Disk.content g.D.Disk.may_leave g.D.Disk.honest old first ticks).
     all_follows g.C.Capture.content g.D.Disk.content g.D.Disk.may_leave c.worlds_go_on.ensures c.log_outcomes.ensures.ready logged
     c.write_log.new.files first (ticks ++ accepted_of requests live ∷ []) old.acked started rests
     (c.write_log.ensures.follows honest first (ticks ++ accepted_of requests live ∷ []) old.acked
