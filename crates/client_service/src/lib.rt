@@ -3,7 +3,7 @@
 //! `serve_clients` starts the workers of an open world, serves so many connections, and stops them.
 //! A session reads batches and sends each to the mutator. It writes the log writer's post of a
 //! batch, which comes only after the batch's tick is durable. A client that fails or leaves ends
-//! only its own session. A session that has ended is joined before the next connection is accepted.
+//! only its own session. Sessions that have ended are joined before the next wait for a connection.
 #![tactic(auto)]
 
 mod accept;

@@ -99,8 +99,8 @@ fn begins_after(tick: u64, log: &[u8]) -> bool
     }
 }
 
-/// A log that is empty, of a world that is recovered at tick 0. Either its first start was cut off,
-/// or the log was lost with ticks that were answered. The files don't say which.
+/// A log that is empty, of a world that is recovered at tick 0. Either it never had a start, or the
+/// log was lost with ticks that were answered. The files don't say which.
 #[derive(Clone, Copy, Debug, PartialEq, Eq)]
 pub struct Doubtful(pub Slot);
 

@@ -2,8 +2,9 @@
 //!
 //! `steps` runs a script over a world in memory. `create` makes the files of a new world in a
 //! folder. `recover`, `inspect` and `status` print which world the files of a folder hold, and
-//! write nothing into it. `backup` copies it, also while it is served. `serve` serves the world of
-//! a folder to clients of a port or of a socket.
+//! write nothing into it. `backup` copies it, also while it is served. `salvage` makes a world
+//! of what can be read of damaged files. `serve` serves the world of a folder to clients of a port
+//! or of a socket.
 //!
 //! The status is 0 if the run ended well, and 2 for a wrong command line. It is 1 after a fault,
 //! and 13 after one by a shortage of memory, threads or room on a disk: standard error then has
