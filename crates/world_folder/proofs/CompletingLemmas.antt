@@ -1,11 +1,10 @@
 -- Files of which none is open hold no world.
-use Rattle.std.proofs.Common.{◌≡◌, ℕ, List, Bool, true, false, Option, Some, None, length, refl, sym, subst, ap, ◌∙◌, inl, inr, ⊎_elim, arith}
+use Rattle.std.proofs.Common.{◌≡◌, ℕ, List, true, false, Option, Some, None, length, refl, sym, subst, ap, ◌∙◌, inl, inr, ⊎_elim, arith}
 use Rattle.std.specs.Prelude.{get_or, nat_le, ◌==◌}
 use Rattle.std.proofs.lemmas.Bool.{cases_lt}
 use Rattle.std.proofs.lemmas.Grind.{common_steps}
 use Rattle.std.proofs.lemmas.Bool.Decides.{nat_tests}
 use Rattle.world_actions.specs.declared.refusal.Refusal.TheVariants.{NotEmpty}
-use Rattle.file_format.specs.Gate.{HasClosedGate}
 use Rattle.file_format.specs.declared.gate.TheConstants.{OPEN_GATE}
 use Rattle.disk_model.specs.declared.four_files.FourFiles.{FourFiles}
 use Rattle.image_files.specs.Image.{Closed, image_of}
@@ -60,7 +59,7 @@ module _ {D : Type 0} (content : D → List ℕ) (leaves : D → List ℕ → Ty
   segment_ready file (Some old) (Some new) disk before after not kept ready =
       subst (λ (bytes : List ℕ). IsSegment bytes ClosedSegment) (sym (ap content ready.0 ∙ kept.same_content)) (segment_closed (content old) not)
 
-  pub taken_closed : (identity : D → Identity) (files : FourFiles D) (before after : List Act) → AreTaken content leaves identity files before after → FilesAreClosed content files
+  taken_closed : (identity : D → Identity) (files : FourFiles D) (before after : List Act) → AreTaken content leaves identity files before after → FilesAreClosed content files
   taken_closed identity files before after taken =
       let none = taken.none_open in
       let kept = taken.completed.kept in
@@ -73,7 +72,7 @@ module _ {D : Type 0} (content : D → List ℕ) (leaves : D → List ℕ → Ty
       }
 
 -- closed files are no reason to name one
-pub closed_not_occupied : {D : Type 0} (file : D → List ℕ) (folder : List ℕ) (files : FourFiles D) (ending : Ending)
+closed_not_occupied : {D : Type 0} (file : D → List ℕ) (folder : List ℕ) (files : FourFiles D) (ending : Ending)
     → FilesAreClosed file files → ReportsUnmade file folder files ending → IsOccupied ending → ⊥
 closed_not_occupied file folder files (Fault NotEmpty) closed reported occupied =
     ⊎_elim (λ is. absurd cc) (⊎_elim (λ is. absurd cc) (λ is. is.1 closed)) reported
@@ -83,3 +82,9 @@ closed_not_occupied file folder files (Occupied named) closed reported occupied 
     (⊎_elim (λ is. is.2 closed.image_b_closed)
     (⊎_elim (λ is. is.3 closed.log_a_closed) (λ is. is.4 closed.log_b_closed))) reported.2
 closed_not_occupied file folder files other closed reported occupied = absurd reported
+
+-- none of the files that were taken for a new world is named as one that may hold a world
+pub taken_not_occupied : {D : Type 0} (content : D → List ℕ) (leaves : D → List ℕ → Type 0) (identity : D → Identity) (folder : List ℕ) (files : FourFiles D) (before after : List Act) (ending result : Ending)
+    → AreTaken content leaves identity files before after → ReportsUnmade content folder files ending → result ≡ ending → IsOccupied result → ⊥
+taken_not_occupied content leaves identity folder files before after ending result taken reported same occupied =
+    closed_not_occupied content folder files ending (taken_closed content leaves identity files before after taken) reported (subst IsOccupied same occupied)

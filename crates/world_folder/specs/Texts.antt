@@ -1,6 +1,6 @@
 -- The texts of reports and figures, as people read them.
 use Rattle.std.specs.Char.{is_control, encode_utf8, digit_char}
-use Rattle.std.specs.Prelude.{ℕ, ◌+◌, ◌-◌, ◌/◌, ◌%◌, List, [], ◌++◌, if◌then◌else◌, codes, decimal}
+use Rattle.std.specs.Prelude.{ℕ, ◌/◌, ◌%◌, List, [], ◌++◌, if◌then◌else◌, codes, decimal}
 use Rattle.world_actions.specs.declared.world.TheConstants.{CELLS, LIMIT}
 use Rattle.world_actions.specs.declared.refusal.Refusal.{Refusal}
 use Rattle.world_actions.specs.Refusal.{code_of}

@@ -182,6 +182,18 @@ impl From<AllocError> for Ending {
     }
 }
 
+/// The reason why files hold no world.
+impl From<Fault> for Ending {
+    ghost use Rattle.std.specs.Prelude.{◌≡◌};
+    ghost use Rattle.world_folder.specs.declared.ending.Ending.TheVariants.{NoWorld};
+
+    ghost from_gives = { λ fault ending. ending ≡ NoWorld fault };
+
+    fn from(fault: Fault) -> Self {
+        Ending::NoWorld(fault)
+    }
+}
+
 /// The error of a print: standard output failed, or there was no memory for its text.
 impl From<io::Error> for Ending {
     ghost use Rattle.world_folder.specs.Ending.{IsFault};

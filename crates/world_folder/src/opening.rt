@@ -151,17 +151,11 @@ fn disks_of<D>(files: FourFiles<OwnFile<D>>) -> FourFiles<D>
       log_b = files.log_b.disk;
     } }
 {
-    let FourFiles {
-        image_a: OwnFile { disk: image_a, .. },
-        image_b: OwnFile { disk: image_b, .. },
-        log_a: OwnFile { disk: log_a, .. },
-        log_b: OwnFile { disk: log_b, .. },
-    } = files;
     FourFiles {
-        image_a,
-        image_b,
-        log_a,
-        log_b,
+        image_a: files.image_a.disk,
+        image_b: files.image_b.disk,
+        log_a: files.log_a.disk,
+        log_b: files.log_b.disk,
     }
 }
 
@@ -201,17 +195,11 @@ pub fn failure_of<D: WorldDisk + Drop>(alloc: Global, folder: &str, files: FourF
     ensures other { ¬ IsOccupied result }
     ensures fault { IsFault result }
 {
-    let FourFiles {
-        image_a,
-        image_b,
-        log_a,
-        log_b,
-    } = files;
     let files = FourFiles {
-        image_a: Some(image_a),
-        image_b: Some(image_b),
-        log_a: Some(log_a),
-        log_b: Some(log_b),
+        image_a: Some(files.image_a),
+        image_b: Some(files.image_b),
+        log_a: Some(files.log_a),
+        log_b: Some(files.log_b),
     };
     failure_of_present(alloc, folder, files)
 }

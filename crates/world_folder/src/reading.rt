@@ -92,22 +92,16 @@ pub fn answered<D: WorldDisk, T>(disk: &mut D, answer: Result<T, Refusal>) -> io
 pub fn all_read(
     alloc: Global,
     folder: &str,
-    files: FourFiles<Named<io::Result<Vec<u8>>>>,
+    read: FourFiles<Named<io::Result<Vec<u8>>>>,
 ) -> Result<FourFiles<Vec<u8>>, Ending>
-    ensures read { IfOk result (AreRead files) }
-    ensures unread { IfErr result (ReportsOfFirst folder.now files) }
+    ensures read { IfOk result (AreRead read) }
+    ensures unread { IfErr result (ReportsOfFirst folder.now read) }
     ensures fault { IfErr result IsFault }
 {
-    let FourFiles {
-        image_a,
-        image_b,
-        log_a,
-        log_b,
-    } = files;
     Ok(FourFiles {
-        image_a: opened(alloc, folder, image_a.file.name(), image_a.value)?,
-        image_b: opened(alloc, folder, image_b.file.name(), image_b.value)?,
-        log_a: opened(alloc, folder, log_a.file.name(), log_a.value)?,
-        log_b: opened(alloc, folder, log_b.file.name(), log_b.value)?,
+        image_a: opened(alloc, folder, read.image_a.file.name(), read.image_a.value)?,
+        image_b: opened(alloc, folder, read.image_b.file.name(), read.image_b.value)?,
+        log_a: opened(alloc, folder, read.log_a.file.name(), read.log_a.value)?,
+        log_b: opened(alloc, folder, read.log_b.file.name(), read.log_b.value)?,
     })
 }

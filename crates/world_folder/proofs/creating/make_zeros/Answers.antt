@@ -1,22 +1,13 @@
-use Rattle.std.proofs.Common.{subst}
-use Rattle.world_folder.specs.Completing.{IsOccupied}
-use Rattle.world_folder.proofs.CompletingLemmas.{taken_closed, closed_not_occupied}
+use Rattle.world_folder.proofs.CompletingLemmas.{taken_not_occupied}
 use Rattle.world_folder.proofs.creating.make_zeros.Goals as goal
 
 pub returns-in-Ok-clause-zeros : goal.returns-in-Ok-clause-zeros
 returns-in-Ok-clause-zeros g c = λ honest honest_files.
     let taken = c.in_ok-files.ensures.taken honest honest_files in
     let made = c.in-Ok.ensures.made honest_files in
-    record {
-      files = c.in_ok-files.files;
-      taken = taken;
-      made_of = made;
-      sound = made.sound taken.synced_files;
-      durable = made.synced taken.synced_files;
-    }
+    record { files = c.in_ok-files.files; taken = taken; made_of = made; sound = made.sound taken.synced_files; durable = made.synced taken.synced_files }
 
 pub returns-in-Err-clause-refused : goal.returns-in-Err-clause-refused
 returns-in-Err-clause-refused g c = λ honest honest_files occupied.
-    let closed = taken_closed g.F.File.Disk.content g.F.File.Disk.may_leave g.F.Folder.identity c.in_ok-files.files _ _ (c.in_ok-files.ensures.taken honest honest_files) in
-    let reported = (c.in-Err.ensures.unmade honest_files).reported in
-    absurd (closed_not_occupied g.F.File.Disk.content c.args.path.now c.in_ok-files.files c.in-Err.ending closed reported (subst IsOccupied (c.not_made.ensures.same occupied) occupied))
+    absurd (taken_not_occupied g.F.File.Disk.content g.F.File.Disk.may_leave g.F.Folder.identity c.args.path.now c.in_ok-files.files _ _ c.in-Err.ending _
+    (c.in_ok-files.ensures.taken honest honest_files) (c.in-Err.ensures.unmade honest_files).reported (c.not_made.ensures.same occupied) occupied)
