@@ -19,16 +19,15 @@ import sys
 import tempfile
 import threading
 import time
-from collections.abc import Iterator
+from collections.abc import Callable, Iterator
 
-from check_docs import TOP, commands_after
-from kill_trial import CELLS, CLIENTS, METHODS, Answered, Batch, Client, Found, Wrong
-from kill_trial import batches, collected, found_in, judge
+from check_docs import commands_after
+from kill_trial import CELLS, CLIENTS, Answered, Batch, Client, Found, batches, collected, found_in, judge
 from mirror_machine import CONSOLE, CREATE, PACKAGES, PAGE, PEER, PROMOTE, SERVICE, STEP_DOWN, UP
 from mirror_machine import PATIENCE_SECONDS, Edits, Pair
 from power_machine import lacking, parser_of, status_of
+from trial import METHODS, Wrong
 
-sys.path.insert(0, str(TOP / "clients" / "python"))
 from cektaulis import Add, World
 
 EVERY, PLAY_SECONDS, FROZEN_SECONDS, LIBRARY_BATCHES, LIBRARY_SECONDS = (8, 64), 2.5, 4, 40, 150
@@ -47,17 +46,18 @@ class Trial(Pair):
 
     def __init__(self, given: argparse.Namespace, folder: pathlib.Path, edits: Edits) -> None:
         super().__init__(given, folder, edits)
-        self.begun, self.seconds = time.monotonic(), []
+        self.begun = time.monotonic()
+        self.seconds: list[float] = []
         self.before = Found("recovered 0 from 0", 0, 0, "image.a", [0] * WORLD_CELLS, False)
         self.primary, self.runs, self.found = "alpha", 0, self.before
         self.is_held, self.pause, self.killed = False, 0.0, threading.Event()
         self.clients: list[Client] = []
 
-    def kill(self, name: str, *how: object) -> None:
+    def kill(self, name: str, is_kept: bool = False, share: float | None = None) -> None:
         """Takes the power of a machine. Clients take what had left it."""
         if name == self.primary:
             self.killed.set()
-        super().kill(name, *how)
+        super().kill(name, is_kept, share)
 
     def plan(self, client: int) -> Iterator[Batch]:
         """The batches of a client, until play is held."""
@@ -299,8 +299,7 @@ class Trial(Pair):
         for number in range(self.given.both):
             self.both_lose_power(number % 2 == 1)
             print(self.counts(), flush=True)
-        others = self.disk_fails, self.secondary_dies, self.switch, self.start_is_killed
-        others += self.wire_is_cut, self.library_plays
+        others = [self.disk_fails, self.secondary_dies, self.switch, self.start_is_killed, self.wire_is_cut, self.library_plays]
         kinds = itertools.cycle(kind for other in others for kind in (other, self.machine_dies))
         while self.tally["failovers"] < self.given.failovers:
             kind = next(kinds)
@@ -411,7 +410,7 @@ def raw_disk(trial: Trial) -> str:
 
 # DRBD refuses protocol A with `resource-and-stonith`.
 NO_FENCE = {"resource-and-stonith": "dont-care"}
-CONTROLS = {
+CONTROLS: dict[str, tuple[Callable[[Trial], str], Edits]] = {
     "protocol A with a slow wire": (late_mirror, {"protocol C": "protocol A"} | NO_FENCE),
     "fencing dont-care with a cut wire": (no_fence, NO_FENCE),
     "a promotion while catching up": (catching_up, {}),
@@ -430,7 +429,7 @@ def main() -> int:
     given = parser.parse_args()
 
     def run(folder: pathlib.Path) -> None:
-        scenes = CONTROLS if given.show else {"the series": (Trial.series, {})}
+        scenes: dict[str, tuple[Callable[[Trial], str], Edits]] = CONTROLS if given.show else {"the series": (Trial.series, {})}
         for name, (scene, edits) in scenes.items():
             trial = Trial(given, pathlib.Path(tempfile.mkdtemp(dir=folder)), edits)
             try:

@@ -24,7 +24,7 @@ import threading
 import time
 from collections.abc import Iterator
 
-from trial import METHODS, PATIENCE_SECONDS, QUIET, SOCKET, TRANSPORTS, Served, Words, Wrong  # noqa: F401 - others take QUIET here
+from trial import METHODS, PATIENCE_SECONDS, SOCKET, TRANSPORTS, Served, Words, Wrong
 from trial import ask, connect, create, flags_of, parser_of, pipe, status_in_folder, summary
 
 LIMIT = 999_999_999_999_999_999

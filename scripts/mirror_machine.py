@@ -8,16 +8,15 @@ import pathlib
 import random
 import re
 import select
-import shutil
 import socket
 import tempfile
 import time
 from collections.abc import Callable
 
-from check_docs import TOP, commands_after
-from example_trial import free_port
-from kill_trial import Wrong
-from power_machine import APPENDED, DISK, WHOLE, Machine, pack
+from check_docs import commands_after
+from map import TOP
+from power_machine import APPENDED, DISK, WHOLE, Machine, pack, path_of
+from trial import Wrong, free_port
 
 PAGE, PEER = (TOP / "docs" / "STANDBY.md").read_text(), {"alpha": "beta", "beta": "alpha"}
 # The ports of a machine: its console, a shell, what its service prints, and its fence.
@@ -109,13 +108,14 @@ class Pair:
     def __init__(self, given: argparse.Namespace, folder: pathlib.Path, edits: Edits) -> None:
         self.given, self.folder, self.edits = given, folder, {"/dev/VG/world": "/dev/vda", **edits}
         self.images = {name: bytearray(MEGABYTES << 20) for name in PEER}
-        self.ports, self.machines = {name: str(free_port()) for name in PEER}, {}
+        self.ports = {name: str(free_port()) for name in PEER}
+        self.machines: dict[str, Twin] = {}
         # What each machine printed on each port, and the packets of each with their times.
         self.lines: dict[tuple[str, int], list[str]] = collections.defaultdict(list)
-        self.wire = {name: collections.deque() for name in PEER}
-        self.delay, self.is_cut, self.has_fence = (0, 0), False, True
-        self.tally = collections.Counter()
-        files = {f"sbin/{name}": shutil.which(name) for name in PROGRAMS}
+        self.wire: dict[str, collections.deque[tuple[float, bytes]]] = {name: collections.deque() for name in PEER}
+        self.delay, self.is_cut, self.has_fence = (0.0, 0.0), False, True
+        self.tally: collections.Counter[str] = collections.Counter()
+        files = {f"sbin/{name}": path_of(name) for name in PROGRAMS}
         files |= {path.lstrip("/"): path for path in OF_DRBD}
         files["usr/local/bin/worldd"] = given.worldd
         ours = [TOP / "install.sh", *(TOP / "scripts" / "standby").iterdir()]
@@ -200,7 +200,8 @@ class Pair:
 
     def run(self, name: str, command: str) -> tuple[int, list[str]]:
         """Runs a command in a machine's shell, and gives its status and its lines."""
-        self.lines[name, SHELL] = lines = []
+        lines: list[str] = []
+        self.lines[name, SHELL] = lines
         line = f"{command}\ns=$?; echo; echo @@$s\n"
         self.machines[name].streams[SHELL].sendall(line.encode())
         if not self.wait(PATIENCE_SECONDS, lambda: lines and lines[-1].startswith("@@")):
