@@ -162,12 +162,10 @@ class Machine(Disk):
     """A running machine with a disk. A write is read back at once, done after a while, later still if it has the slow bytes,
     and durable once a flush is done that began after that. A disk that lies keeps the last writes back at each flush."""
 
-    def __init__(
-        self, room: pathlib.Path, packed: pathlib.Path, image: bytearray, ports: int,
-        more: Sequence[str] = (), files: Sequence[int] = (),
-    ) -> None:
-        """Starts what was packed in a folder, with more words for QEMU and these open files of ours."""
+    def __init__(self, packed: pathlib.Path, image: bytearray, ports: int, more: Sequence[str] = ()) -> None:
+        """Starts what was packed in a folder, with more words for QEMU."""
         super().__init__(image)
+        room = pathlib.Path(tempfile.mkdtemp(dir=packed))
         self.slow, self.kept_back, self.rests = (b"", 0.0), 0, [b""] * (1 + ports)
         self.due: list[tuple[float, int, int, set[int], bytes]] = []
         doors = [socket.create_server(f"{room}/{name}", family=socket.AF_UNIX) for name in ("disk", "lines")]
@@ -175,7 +173,7 @@ class Machine(Disk):
         for port in range(1 + ports):
             words += ["-chardev", f"socket,id=c{port},path={room}/lines"]
             words += ["-device", f"virtserialport,chardev=c{port}"] if port else []
-        self.process = subprocess.Popen([*words, *more], stdin=QUIET, pass_fds=files, start_new_session=True)
+        self.process = subprocess.Popen([*words, *more], stdin=QUIET, start_new_session=True)
         self.chosen = selectors.DefaultSelector()
         for door in doors:
             door.settimeout(PATIENCE_SECONDS)
@@ -257,7 +255,7 @@ class Rig:
             programs["lib/first.so"] = str(library_of(self.library, room))
         words |= {"fault": self.fault, "library": "/lib/first.so" if self.library else ""}
         pack(room, given.kernel, [given.fs], programs, script.format(**vars(given) | words))
-        return contextlib.closing(Machine(room, room, image, ports))
+        return contextlib.closing(Machine(room, image, ports))
 
     def reading(self) -> contextlib.closing[Machine]:
         """Starts the machine that tells what is left on a disk."""
