@@ -10,6 +10,7 @@ answered tick must be there, as kill_trial.py judges it. With --show the server 
 start, which has to lose ticks.
 """
 import argparse
+import collections
 import contextlib
 import itertools
 import pathlib
@@ -21,7 +22,8 @@ from collections.abc import Callable
 
 import here_machine
 from kill_trial import CELLS, CLIENTS, Answered, Batch, Found, batches, found_in, judge, text_of
-from power_machine import DISK, FLUSH, MOUNTED, READ, SECTOR, WAYS, WHOLE, WRITE, Machine, Rig, lacking, parser_of, status_of, world_of
+from power_machine import DISK, FLUSH, MOUNTED, READ, SECTOR, WAYS, WHOLE, WRITE, Machine, Rig
+from power_machine import lacking, parser_of, status_of, world_of
 from trial import METHODS, Wrong
 
 FS, SMALL_MEGABYTES = ("ext4", "xfs"), 32
@@ -94,7 +96,7 @@ class Trial(Rig):
     """A trial on a file system: what was answered, what waits, and the call that is to fail."""
 
     running: Machine | here_machine.Here
-    reader: object
+    reader: Machine | None
     # The ticks that were answered, the batches that wait and those that were refused, and the world before them.
     answered: Answered
     waiting: dict[int, Batch]
@@ -117,6 +119,7 @@ class Trial(Rig):
             self.left = self.left[: SMALL_MEGABYTES << 20]
         # The system's copies matter most for a gate that only they have open.
         self.kinds = [kind for kind in failures() if not given.show or kind[2:] == ("open", "write")]
+        self.failed: collections.Counter[Failure] = collections.Counter()
         self.way, self.hits, self.share, self.is_journal = None, 0, 0.0, False
 
     def take(self, port: int, line: str) -> None:
@@ -171,7 +174,7 @@ class Trial(Rig):
         elif call == "did":
             if self.wanted and int(words[0]) < 0 and (self.hits or self.way is None):
                 self.failed_now, self.wanted_now = self.wanted, set()
-                self.tally.update([self.wanted])
+                self.failed[self.wanted] += 1
             if self.hits:
                 # A refused write may be of another file. That file reports it at its next sync: in this case or in the next one.
                 self.strayed = 2
@@ -251,13 +254,13 @@ class Trial(Rig):
     def left_by_cut(self, size: int, share: float) -> list[str]:
         """Cuts the power of the disk, and reports what is left: by this machine if the disk is its own, or by another one."""
         if isinstance(self.running, Machine):
-            assert isinstance(self.reader, Machine)
+            assert self.reader
             return self.cut(self.running, self.reader, size, share)
         with self.running.guard:
             self.running.cut(self.left, size, share)
         return here_machine.lines_of(self.folder, self.given.worldd, self.given.fs, self.left)
 
-    def start(self, **words: object) -> contextlib.AbstractContextManager[object]:
+    def start(self, **words: object) -> contextlib.AbstractContextManager[Machine | here_machine.Here]:
         """Starts a machine with a new disk: this one, or one of QEMU's."""
         if not self.given.here:
             return self.machine(SERVES, self.new_disk(), AGAIN, **words, settled=SETTLED, port=7070)
@@ -276,9 +279,9 @@ class Trial(Rig):
 
     def fail(self) -> bool:
         """Lets a call fail, of those that failed least or never. Whether it came to it."""
-        least = min(self.tally[kind] for kind in self.kinds)
-        target = random.choice([kind for kind in self.kinds if self.tally[kind] == least])
-        wanted = {target, *(kind for kind in self.kinds if kind[0] == target[0] and not self.tally[kind])}
+        least = min(self.failed[kind] for kind in self.kinds)
+        target = random.choice([kind for kind in self.kinds if self.failed[kind] == least])
+        wanted = {target, *(kind for kind in self.kinds if kind[0] == target[0] and not self.failed[kind])}
         self.failed_now, self.wanted_now = None, wanted
         if target[0] == PLAY:
             self.play(SEARCHED, True)
@@ -322,9 +325,7 @@ class Trial(Rig):
         self.wanted, self.wanted_now, self.failed_now, self.server_line, self.until_cut = None, set(), None, "", 0
         self.strayed = 0
         words = {"method": METHODS[run % 2], "every": random.choice(EVERY)}
-        with self.start(**words) as running:
-            assert isinstance(running, Machine | here_machine.Here)
-            self.running = running
+        with self.start(**words) as self.running:
             self.running.refused = self.refused
             try:
                 self.again()
@@ -341,7 +342,7 @@ class Trial(Rig):
                 if self.tally["failed calls"] >= count:
                     break
                 self.serve(run, min(self.tally["failed calls"] + FAILURES_OF_A_MACHINE, count))
-        never = [" ".join(kind) for kind in self.kinds if not self.tally[kind]]
+        never = [" ".join(kind) for kind in self.kinds if not self.failed[kind]]
         if never:
             raise Wrong(f"never met: {', '.join(never)}: {self.counts()}")
         return self.counts()
@@ -354,7 +355,7 @@ class Trial(Rig):
         counts = [f"{name} {self.tally[name]}" for name in names]
         for phase, file in dict.fromkeys(kind[:2] for kind in self.kinds):
             steps = dict.fromkeys(kind[2] for kind in self.kinds if kind[:2] == (phase, file))
-            met = {it: [f"{kind[3]} {self.tally[kind]}" for kind in self.kinds if kind[:3] == (phase, file, it)] for it in steps}
+            met = {it: [f"{kind[3]} {self.failed[kind]}" for kind in self.kinds if kind[:3] == (phase, file, it)] for it in steps}
             counts.append(f"{file} in {phase}: " + ", ".join(f"{step} ({', '.join(each)})" for step, each in met.items()))
         return "; ".join(counts)
 
@@ -384,8 +385,9 @@ def main() -> int:
         if given.show:
             raise Wrong("no loss was seen without the drop of copies")
 
-    missing, parent = (here_machine.lacking, here_machine.MEMORY) if given.here else (lambda: lacking(given.kernel), None)
-    return status_of("device_trial", given, missing, run, parent)
+    given.dir = here_machine.MEMORY if given.here else None
+    missing = here_machine.lacking if given.here else lambda: lacking(given.kernel)
+    return status_of("device_trial", given, missing, run)
 
 
 if __name__ == "__main__":

@@ -16,8 +16,8 @@ import time
 import tty
 from collections.abc import Iterator
 
-from power_machine import DISK, FAILED, FLUSH, READ, WRITE, Disk, Rig
-from trial import QUIET, Words, Wrong, free_port, pipe
+from power_machine import DISK, FAILED, FLUSH, READ, WRITE, Disk, Rig, path_of
+from trial import QUIET, Words, Wrong, free_port, library_of, pipe
 
 # Of the protocol: the kinds of requests, and the attributes of a folder and of the file in it.
 INIT, LOOKUP, GETATTR, OPEN, OPENDIR, READS, WRITES, SYNCS = 26, 1, 3, 14, 27, 15, 16, 20
@@ -189,10 +189,8 @@ def here(rig: Rig, script: str, ports: int, **words: object) -> Here:
     room = pathlib.Path(tempfile.mkdtemp(dir=rig.folder))
     (room / "bin").mkdir()
     (room / "bin" / "worldd").symlink_to(rig.given.worldd)
-    (room / "bin" / "nc").symlink_to(shutil.which("busybox") or "busybox")
-    source = pathlib.Path(__file__).with_name(rig.library)
-    subprocess.run(["cc", "-shared", "-fPIC", "-o", room / "first.so", source], check=True)
-    words |= {"fault": rig.fault, "library": room / "first.so", "port": free_port()}
+    (room / "bin" / "nc").symlink_to(path_of("busybox"))
+    words |= {"fault": rig.fault, "library": library_of(rig.library, room), "port": free_port()}
     text = f"PATH={room}/bin:$PATH\n" + script.format(**vars(rig.given) | words)
     return Here(room, text, rig.new_disk(), ports)
 

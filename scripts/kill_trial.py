@@ -24,7 +24,7 @@ import threading
 import time
 from collections.abc import Iterator
 
-from trial import METHODS, PATIENCE_SECONDS, QUIET, SOCKET, TRANSPORTS, Served, Words, Wrong  # noqa: F401 - others take QUIET here
+from trial import METHODS, PATIENCE_SECONDS, SOCKET, TRANSPORTS, Served, Words, Wrong
 from trial import ask, connect, create, flags_of, parser_of, pipe, status_in_folder, summary
 
 LIMIT = 999_999_999_999_999_999
@@ -239,6 +239,12 @@ def found_in(recovered: str, lines: list[str]) -> Found:
     return Found(match[1], int(match[2]), int(match[3]), match[4], words, in_round)
 
 
+def left_in_round(before: Found, after: Found) -> bool:
+    """Whether a kill left an open round. With no tick in the log a start writes no image, and leaves the one closed that an
+    earlier kill had left so."""
+    return after.in_round and not (before.in_round and before.tick == before.base)
+
+
 def leads_to(after: Found, words: list[int], number: int, answered: Answered, unanswered: frozenset[Batch]) -> bool:
     """Whether the ticks after this one lead to the words found, for some of the unanswered batches in some order."""
     words = list(words)
@@ -395,10 +401,8 @@ class Trial:
     def count(self, after: Found, answered: int, unanswered: int) -> None:
         """Counts what came of a kill."""
         kept = after.tick - self.found.tick - answered
-        # With no tick in the log a start writes no image, and leaves the one closed that an earlier kill had left so.
-        was_in_round = self.found.in_round and self.found.tick == self.found.base
         self.tally.update(kills=1, answered=answered, kept=kept > 0, lost=unanswered > kept)
-        self.tally["in_round"] += after.in_round and not was_in_round
+        self.tally["in_round"] += left_in_round(self.found, after)
         self.tally[f"from_{after.image[-1]}"] += 1
 
     def kill_start(self, run: int) -> None:

@@ -1,5 +1,5 @@
-"""Machines of QEMU's, for power_trial.py, device_trial.py and mirror_machine.py. The disk of each is served from here by the NBD
-protocol. It records what is asked of it, and may refuse it. Its power may be cut: another machine tells then what is left."""
+"""Machines of QEMU's, for power_trial.py, device_trial.py and mirror_machine.py. The disk of each is served from here by the
+NBD protocol. It records what is asked of it, and may refuse it. Its power may be cut: another machine tells then what is left."""
 import argparse
 import collections
 import contextlib
@@ -16,12 +16,12 @@ import signal
 import socket
 import struct
 import subprocess
-import sys
 import tempfile
 import time
 from collections.abc import Callable, Iterator, Sequence
 
-from kill_trial import PATIENCE_SECONDS, QUIET, Wrong
+import trial
+from trial import PATIENCE_SECONDS, QUIET, Words, Wrong, library_of
 
 # What has to be there: programs, by their packages.
 PACKAGES = {"qemu-system-x86": "qemu-system-x86_64", "busybox-static": "busybox", "e2fsprogs": "mkfs.ext4"}
@@ -46,8 +46,9 @@ DISK = -1
 # The disk of a file system, and how long the other machine is waited for.
 MEGABYTES, LOOK_SECONDS, BLOCKS = {"ext4": 144, "xfs": 300, "btrfs": 128, "udf": 64}, 600, ("1024", "4096")
 # What is left of the writes that no flush has covered: whole ones or sectors, each by such a chance or by any.
-WHOLE, WAYS = 1 << 30, {"no write left": (False, 0), "all writes left": (False, 1), "some writes left": (False, None)}
-WAYS |= {"some sectors left": (True, None), "most sectors left": (True, 0.95)}
+WHOLE = 1 << 30
+WAYS: dict[str, tuple[bool, float | None]] = {"no write left": (False, 0), "all writes left": (False, 1)}
+WAYS |= {"some writes left": (False, None), "some sectors left": (True, None), "most sectors left": (True, 0.95)}
 MOUNTED = "mount -t {fs} -o {options} /dev/vda /mnt || {{ e2fsck -fy /dev/vda; mount -t {fs} -o {options} /dev/vda /mnt; }}"
 READS = f"""while ! ls /dev/vport*; do sleep 0.1; done
 exec <>$(ls /dev/vport*) >&0 2>&1
@@ -59,15 +60,23 @@ done
 """
 
 
-def kernel_of(root: pathlib.Path) -> pathlib.Path | None:
-    """The newest kernel that is installed or unpacked there."""
-    return max(root.glob("boot/vmlinuz-*"), key=lambda path: [int(n) for n in re.findall(r"\d+", path.name)], default=None)
+def kernels(root: pathlib.Path) -> list[pathlib.Path]:
+    """The kernels that are installed or unpacked there, the newest one last."""
+    return sorted(root.glob("boot/vmlinuz-*"), key=lambda path: [int(n) for n in re.findall(r"\d+", path.name)])
+
+
+def path_of(program: str) -> str:
+    """The path of a program that isn't lacking."""
+    path = shutil.which(program)
+    if path is None:
+        raise Wrong(f"there is no {program}")
+    return path
 
 
 def lacking(root: pathlib.Path, packages: dict[str, str] = PACKAGES, module: str = "") -> list[str]:
     """The packages that aren't there, and the kernel if it or its module of this name isn't."""
     missing = [name for name, program in packages.items() if not shutil.which(program)]
-    if not kernel_of(root) or (module and not modules(root, [module])):
+    if not kernels(root) or (module and not modules(root, [module])):
         missing.append(f"kernel with {module}" if module else "kernel")
     return missing
 
@@ -82,7 +91,7 @@ def unpacked(kernel: pathlib.Path) -> bytes:
 
 def modules(root: pathlib.Path, names: list[str]) -> list[pathlib.Path]:
     """The kernel's modules of these names, each after those that it needs."""
-    release = kernel_of(root).name.removeprefix("vmlinuz-")
+    release = kernels(root)[-1].name.removeprefix("vmlinuz-")
     files = {path.stem.replace("-", "_"): path for path in (root / "lib" / "modules" / release).rglob("*.ko")}
     for name in names:
         needs = re.search(rb"\0depends=([^\0]*)\0", files[name].read_bytes()) if name in files else None
@@ -94,35 +103,39 @@ def pack(room: pathlib.Path, root: pathlib.Path, names: Sequence[str], programs:
     """Packs the machine's kernel and its first file system: busybox and these programs with their C library, modules of the
     kernel, a script."""
     loaded = modules(root, [*names, *MODULES])
-    programs = {"bin/busybox": shutil.which("busybox"), **programs}
+    programs = {"bin/busybox": path_of("busybox"), **programs}
     linked = re.findall(r"(/\S+) \(0x", subprocess.run(["ldd", *programs.values()], capture_output=True, text=True).stdout)
     paths = {path.lstrip("/"): path for path in linked} | programs | {f"modules/{path.name}": path for path in loaded}
-    for folder in ("proc", "sys", "dev", "mnt", *(pathlib.Path(name).parent for name in paths)):
+    for folder in ("proc", "sys", "dev", "mnt", *(os.path.dirname(name) for name in paths)):
         (room / "first" / folder).mkdir(parents=True, exist_ok=True)
     for name, path in paths.items():
         shutil.copy(path, room / "first" / name)
     (room / "first" / "init").write_text(INIT.format(modules=" ".join(path.name for path in loaded)) + script)
     (room / "first" / "init").chmod(0o755)
     subprocess.run("find . | busybox cpio -o -H newc >../files", shell=True, cwd=room / "first", check=True, stderr=QUIET)
-    (room / "kernel").write_bytes(unpacked(kernel_of(root)))
+    (room / "kernel").write_bytes(unpacked(kernels(root)[-1]))
 
 
 class Disk:
-    """The bytes of a disk as they are read, and the durable ones. A flush makes writes durable. A request may be refused: it fails,
-    and of a write such a share of its sectors is made."""
+    """The bytes of a disk as they are read, and the durable ones. A flush makes writes durable. A request may be refused: it
+    fails, and of a write such a share of its sectors is made."""
 
     def __init__(self, image: bytearray) -> None:
-        self.image, self.durable, self.lock = image, bytearray(image), contextlib.nullcontext()
+        self.image, self.durable = image, bytearray(image)
         self.refused: Callable[[int, bytes], float | None] = lambda kind, data: None
-        self.writes, self.done, self.count = {}, set(), 0
+        self.writes: dict[int, tuple[int, bytes]] = {}
+        self.done: set[int] = set()
+        self.count = 0
 
     def is_refused(self, kind: int, at: int, data: bytes) -> bool:
         """Whether a request is refused. Its share is made then."""
         share = self.refused(kind, data)
-        for begin in range(0, len(data) if share else 0, SECTOR):
+        if share is None:
+            return False
+        for begin in range(0, len(data), SECTOR):
             if random.random() < share:
                 self.done.add(self.write(at + begin, data[begin : begin + SECTOR]))
-        return share is not None
+        return True
 
     def write(self, at: int, data: bytes) -> int:
         """Makes a write, and gives its number."""
@@ -149,18 +162,18 @@ class Machine(Disk):
     """A running machine with a disk. A write is read back at once, done after a while, later still if it has the slow bytes,
     and durable once a flush is done that began after that. A disk that lies keeps the last writes back at each flush."""
 
-    def __init__(
-        self, room: pathlib.Path, packed: pathlib.Path, image: bytearray, ports: int, more: Sequence[str] = (), files: Sequence[int] = ()
-    ) -> None:
-        """Starts what was packed in a folder, with more words for QEMU and these open files of ours."""
+    def __init__(self, packed: pathlib.Path, image: bytearray, ports: int, more: Sequence[str] = ()) -> None:
+        """Starts what was packed in a folder, with more words for QEMU."""
         super().__init__(image)
-        self.slow, self.kept_back, self.due, self.rests = (b"", 0.0), 0, [], [b""] * (1 + ports)
+        room = pathlib.Path(tempfile.mkdtemp(dir=packed))
+        self.slow, self.kept_back, self.rests = (b"", 0.0), 0, [b""] * (1 + ports)
+        self.due: list[tuple[float, int, int, set[int], bytes]] = []
         doors = [socket.create_server(f"{room}/{name}", family=socket.AF_UNIX) for name in ("disk", "lines")]
         words = [*QEMU.format(room=room, packed=packed).split(), "-append", APPENDED]
         for port in range(1 + ports):
             words += ["-chardev", f"socket,id=c{port},path={room}/lines"]
             words += ["-device", f"virtserialport,chardev=c{port}"] if port else []
-        self.process = subprocess.Popen([*words, *more], stdin=QUIET, pass_fds=files, start_new_session=True)
+        self.process = subprocess.Popen([*words, *more], stdin=QUIET, start_new_session=True)
         self.chosen = selectors.DefaultSelector()
         for door in doors:
             door.settimeout(PATIENCE_SECONDS)
@@ -222,34 +235,36 @@ class Rig:
 
     def __init__(self, given: argparse.Namespace, folder: pathlib.Path, library: str, fault: str) -> None:
         self.given, self.folder, self.library, self.fault = given, folder, library, fault
-        self.left, self.tally = bytearray(MEGABYTES[given.fs] << 20), collections.Counter()
+        self.left = bytearray(MEGABYTES[given.fs] << 20)
+        self.tally: collections.Counter[str] = collections.Counter()
 
     def new_disk(self) -> bytearray:
         """A disk with a new file system."""
         fs, path = self.given.fs, self.folder / "new"
         path.write_bytes(bytes(len(self.left)))
         flags = {"ext4": ["-q", "-b", random.choice(BLOCKS)], "udf": ["-b", "512"]}.get(fs, [])
-        subprocess.run([f"mkfs.{fs}", *flags, path], check=True, capture_output=True)
+        make: Words = [f"mkfs.{fs}", *flags, path]
+        subprocess.run(make, check=True, capture_output=True)
         return bytearray(path.read_bytes())
 
-    def machine(self, script: str, image: bytearray, ports: int, **words: object) -> contextlib.closing[Disk]:
+    def machine(self, script: str, image: bytearray, ports: int, **words: object) -> contextlib.closing[Machine]:
         """Starts a machine with this script."""
         given, room = self.given, pathlib.Path(tempfile.mkdtemp(dir=self.folder))
-        programs = {"bin/worldd": given.worldd, "bin/e2fsck": shutil.which("e2fsck")}
+        programs = {"bin/worldd": given.worldd, "bin/e2fsck": path_of("e2fsck")}
         if self.library:
-            source, programs["lib/first.so"] = pathlib.Path(__file__).with_name(self.library), f"{room}/first.so"
-            subprocess.run(["cc", "-shared", "-fPIC", "-o", f"{room}/first.so", source], check=True)
+            programs["lib/first.so"] = str(library_of(self.library, room))
         words |= {"fault": self.fault, "library": "/lib/first.so" if self.library else ""}
         pack(room, given.kernel, [given.fs], programs, script.format(**vars(given) | words))
-        return contextlib.closing(Machine(room, room, image, ports))
+        return contextlib.closing(Machine(room, image, ports))
 
-    def reading(self) -> contextlib.closing[Disk]:
+    def reading(self) -> contextlib.closing[Machine]:
         """Starts the machine that tells what is left on a disk."""
         return self.machine(READS, bytearray(self.left), 1)
 
     def cut(self, machine: Machine, reader: Machine, size: int, share: float) -> list[str]:
         """Cuts the power of a machine, which goes on nevertheless. Gives what the other one tells of the disk that is left."""
-        told, end = [], time.monotonic() + LOOK_SECONDS
+        told: list[str] = []
+        end = time.monotonic() + LOOK_SECONDS
         machine.process.send_signal(signal.SIGSTOP)
         machine.cut(self.left, size, share)
         reader.image[:] = self.left
@@ -268,29 +283,19 @@ def world_of(told: list[str]) -> list[str]:
 
 def parser_of(page: str) -> argparse.ArgumentParser:
     """The arguments of each trial that has machines."""
-    parser = argparse.ArgumentParser(description=page.splitlines()[0])
-    parser.add_argument("worldd", type=os.path.abspath, help="the built program")
-    parser.add_argument("--seed", type=int, default=time.time_ns() % 10**9, help="of the batches, the moments and what is left")
+    parser = trial.parser_of(page, "of the batches, the moments and what is left")
     parser.add_argument("--kernel", type=pathlib.Path, default="/", help="where a kernel is installed or unpacked (/)")
     return parser
 
 
 def status_of(
-    name: str, given: argparse.Namespace, lacking: Callable[[], list[str]], run: Callable[[pathlib.Path], None],
-    parent: str | None = None,
+    name: str, given: argparse.Namespace, lacking: Callable[[], list[str]], run: Callable[[pathlib.Path], str | None]
 ) -> int:
-    """Runs a trial in a new folder, which is kept if it fails, and gives its status."""
+    """Runs a trial in a new folder, unless something is lacking, and gives its status."""
     os.environ["PATH"] += ":/usr/sbin:/sbin"
     random.seed(given.seed)
     if missing := lacking():
         print(f"{name}: skipped: there is no {', no '.join(missing)}")
         return 0
     print(f"{name}: seed {given.seed}", flush=True)
-    folder = pathlib.Path(tempfile.mkdtemp(prefix=f"{name.replace('_', '-')}-", dir=parent))
-    try:
-        run(folder)
-    except (Wrong, OSError, subprocess.SubprocessError) as wrong:
-        print(f"{name}: {wrong}\n{name}: seed {given.seed}, files in {folder}", file=sys.stderr)
-        return 1
-    shutil.rmtree(folder)
-    return 0
+    return trial.status_in_folder(name, given, run)

@@ -61,7 +61,6 @@ class Trial(Rig):
         self.answered: Answered = {}
         self.waiting: dict[int, Batch] = {}
         with self.machine(SERVES, bytearray(image), CLIENTS, **words, wakes=60_000 if self.is_udf else 10) as machine:
-            assert isinstance(machine, Machine)
             machine.slow, machine.kept_back = SLOW_LOG if run % 4 in (0, 3) else (b"", 0), KEPT_BACK * (self.fault == FLUSHES)
             while cuts and time.monotonic() < end:
                 for port, line in machine.events(WRITE_SECONDS):
@@ -88,7 +87,6 @@ class Trial(Rig):
         """Cuts the power, judges what another machine recovers then, and gives the world on the disk that was left."""
         way, (is_torn, share) = random.choice(list(WAYS.items()))
         size = self.given.sector or SECTORS.get(self.given.fs, 512) if is_torn else WHOLE
-        assert isinstance(self.reader, Machine)
         lines = self.cut(machine, self.reader, size, random.random() if share is None else share)
         self.tally.update({"cuts": 1, way: 1, self.part: 1, MENDED: "\n".join(lines).count("FILE SYSTEM WAS MODIFIED")})
         lines = world_of(lines)
