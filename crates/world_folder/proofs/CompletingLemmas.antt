@@ -84,7 +84,8 @@ closed_not_occupied file folder files (Occupied named) closed reported occupied 
 closed_not_occupied file folder files other closed reported occupied = absurd reported
 
 -- none of the files that were taken for a new world is named as one that may hold a world
-pub taken_not_occupied : {D : Type 0} (content : D → List ℕ) (leaves : D → List ℕ → Type 0) (identity : D → Identity) (folder : List ℕ) (files : FourFiles D) (before after : List Act) (ending result : Ending)
+pub taken_not_occupied : {D : Type 0} (content : D → List ℕ) (leaves : D → List ℕ → Type 0) (identity : D → Identity)
+    (folder : List ℕ) (files : FourFiles D) (before after : List Act) (ending result : Ending)
     → AreTaken content leaves identity files before after → ReportsUnmade content folder files ending → result ≡ ending → IsOccupied result → ⊥
 taken_not_occupied content leaves identity folder files before after ending result taken reported same occupied =
     closed_not_occupied content folder files ending (taken_closed content leaves identity files before after taken) reported (subst IsOccupied same occupied)
