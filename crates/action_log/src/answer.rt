@@ -7,7 +7,7 @@ pub enum LogAnswer {
     Idle,
     /// A job continues, or has ended.
     Working,
-    /// A group is durable, up to this tick.
+    /// The ticks up to this one are durable: a group was written, or an open image has them.
     Acked(Receipt),
     /// A call of a device failed, in this step or an earlier one.
     Down,

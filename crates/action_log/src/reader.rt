@@ -1,20 +1,27 @@
-ghost use Rattle.std.specs.Prelude.{◌≡◌, ◌⊎◌, ℕ, List, length, Some, Err, IfSome, IfOk, IfErr};
+ghost use Rattle.std.specs.Prelude.{◌≡◌, ◌⊎◌, ℕ, List, length, Some, Ok, Err, IsErr, IfSome, IfOk};
+ghost use Rattle.std.specs.Prelude.{IfErr, OnOk};
 ghost use Rattle.world_actions.specs.declared.action.Action.{Action};
+ghost use Rattle.world_actions.specs.declared.refusal.Refusal.TheVariants.{BadLog};
+ghost use Rattle.world_ticks.specs.After.{after_actions};
 ghost use Rattle.action_log.specs.Segment.{MalformedSegment, IsSegment, IsOpenSegment, HasTicks};
 ghost use Rattle.action_log.specs.Reading.{IsJudged};
 ghost use Rattle.action_log.specs.LogState.{segment_in};
+ghost use Rattle.action_log.specs.HeldLog.{AreHeld, IsHeld, segment_held, ticks_in};
+ghost use Rattle.action_log.specs.TickList.{actions_of};
 
 mod extent;
+mod replay;
 mod ticks;
 
 pub use self::extent::{Extent, extent_of};
+use self::replay::replay_groups;
 use self::ticks::{Counts, count_all, read_ticks};
 use crate::format::{FIRST_GROUP, HEADER_BYTES, SEGMENT_TICKS};
 use crate::tick_list::TickList;
 use file_format::{Format, OPEN_GATE, marked_at};
 use std::alloc::Global;
 use world_actions::Refusal;
-use world_ticks::TICK_MAX;
+use world_ticks::{Cells, TICK_MAX};
 
 /// The reading of a segment.
 #[derive(Drop)]
@@ -23,6 +30,62 @@ pub enum LogState {
     Closed,
     /// It is open. `ticks` are its ticks in order, and the first of them is the one after `base`.
     Open { base: u64, ticks: TickList },
+}
+
+/// A segment that is judged. The ticks of an open one are still in its bytes.
+#[derive(Clone, Copy)]
+pub enum HeldLog<'a> {
+    /// It is closed, and holds nothing.
+    Closed,
+    /// It is open. The first of its ticks is the one after `base`.
+    Open { base: u64, ticks: HeldTicks<'a> },
+}
+
+/// The ticks of a segment in its bytes: so many, in the groups of a format.
+#[derive(Clone, Copy)]
+pub struct HeldTicks<'a> {
+    pub count: usize,
+    pub format: Format,
+    pub groups: &'a [u8],
+}
+
+impl HeldTicks<'_> {
+    /// Replays the ticks on the cells, and makes no list of them. If an action is refused, it stops
+    /// and returns `BadLog`.
+    pub fn replay<C: Cells>(&self, c: &mut C) -> Result<(), Refusal>
+        requires { AreHeld self.now }
+        ensures done { OnOk result (after_actions (C.words c.old) (actions_of (ticks_in self.now))
+            ≡ Ok (C.words c.new)) }
+        ensures refused { IfErr result (λ refusal. (refusal ≡ BadLog)
+            × IsErr (after_actions (C.words c.old) (actions_of (ticks_in self.now)))) }
+    {
+        replay_groups(self.format, self.groups, c)
+    }
+}
+
+/// Judges a segment of either format, and counts its ticks. It refuses with `BadLog` exactly if the
+/// segment is malformed. It takes no memory.
+pub fn judge_log(bytes: &[u8]) -> Result<HeldLog<'_>, Refusal>
+    ensures reads { IfOk result (λ held. IsSegment bytes.now (segment_held held) × IsHeld held) }
+    ensures refuses { IfErr result (λ refusal. (refusal ≡ BadLog)
+        × IsSegment bytes.now MalformedSegment) }
+{
+    match judge(bytes) {
+        Judged::Closed => Ok(HeldLog::Closed),
+        Judged::Malformed => Err(Refusal::BadLog),
+        Judged::Open {
+            format,
+            base,
+            counts,
+        } => Ok(HeldLog::Open {
+            base,
+            ticks: HeldTicks {
+                count: counts.ticks,
+                format,
+                groups: &bytes[FIRST_GROUP..],
+            },
+        }),
+    }
 }
 
 /// Reads a segment of either format, as recovery does. It refuses with `BadLog` exactly if the

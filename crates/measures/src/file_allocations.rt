@@ -138,7 +138,7 @@ fn recover_segment<R: Print + AllocGlobal>(
 ) -> Result<(), Error> {
     log.write_segment(rt.alloc())?;
     recover_one(rt, image, log.first_segment())?;
-    report_most(rt, "the same with a full segment", 3)
+    report_most(rt, "the same with a full segment", 1)
 }
 
 fn recover_one<R: AllocGlobal>(rt: &R, image: &[u8], log: &[u8]) -> Result<(), Refusal> {

@@ -5,10 +5,8 @@ use Rattle.world_actions.specs.World.{IsWorld}
 use Rattle.world_ticks.specs.declared.tick.TheConstants.{TICK_MAX}
 use Rattle.image_files.specs.Image.{Image, Closed, Bad, Open}
 use Rattle.action_log.specs.declared.format.TheConstants.{SEGMENT_TICKS}
-use Rattle.action_log.specs.TickList.{actions_of}
-use Rattle.action_log.specs.Segment.{Tick, Segment, ClosedSegment, MalformedSegment, OpenSegment}
+use Rattle.action_log.specs.Segment.{Segment, ClosedSegment, MalformedSegment, OpenSegment}
 use Rattle.recovery.specs.declared.newest.Newest.{Newest as Found}
-use Rattle.recovery.specs.declared.tail.Stretch.{Stretch}
 use Rattle.recovery.specs.Recovery.{Newest}
 
 -- an open image is of a tick and a world
@@ -27,8 +25,3 @@ IsBoundedSegment (OpenSegment base ticks) =
 -- the newest image
 abbrev pub newest_in : Found → Newest
 newest_in found = record { slot = found.slot; tick = found.tick; words = found.words.items }
-
--- the number of these ticks, and their actions
-pub record IsStretchOf (ticks : List Tick) (stretch : Stretch) : Type 0 where
-  pub so_many : stretch.ticks ≡ length ticks
-  pub actions_are : stretch.actions.now ≡ actions_of ticks

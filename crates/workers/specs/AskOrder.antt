@@ -94,8 +94,8 @@ new_session v = Sends (sessions_of v) 0
 abbrev pub asks_of : List Item → List AskedBatch
 asks_of items = map (λ (answer : Unposted). answer.asked) (all_answers_of items)
 
--- The asks that were taken are each session's first, second and so on, up to its last one. Each
--- tick is that of one of them. Of one session, the later tick is of the ask with the greater
+-- The asks that were taken are each session's first, second and so on, up to the last one taken.
+-- Each tick is that of one of them. Of one session, the later tick is of the ask with the greater
 -- number: a batch is played once, in its session's order.
 pub record PlaysInTurn (taken : List AskedBatch) (items : List Item) : Type 0 where
   pub numbered : AreNumbered taken

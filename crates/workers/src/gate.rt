@@ -26,8 +26,8 @@ pub enum Pass {
     Stuck,
 }
 
-/// A gate is asked before each step of a worker, in the worker's thread. Tests use gates
-/// to hold workers.
+/// A gate is asked before each batch, each take of a cell and each call of a device, in the
+/// worker's thread. Tests use gates to hold workers.
 pub trait Gate {
     ghost use Rattle.workers.specs.declared.gate.Place.{Place};
     ghost use Rattle.workers.specs.declared.gate.Pass.{Pass};

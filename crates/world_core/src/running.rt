@@ -17,9 +17,10 @@ use world_actions::Refusal;
 
 /// Runs moves over a fresh world, and returns one answer for each and the core after them. Whatever
 /// a crash leaves of its files then, recovery gives the world after the first ended ticks, and all
-/// acknowledged ones are among them. Each open image is the world after exactly its tick. No crash
-/// empties a file that was written once (`written`). Each move gets its refusal or its plain
-/// answer, and a crash the result of recovery. `Core::step` continues with the core from there.
+/// acknowledged ones are among them. Each open image is the world after exactly its tick. `written`
+/// says which files no crash leaves empty. Each move gets its refusal or its plain answer, and
+/// a crash that isn't refused the result of recovery. `Core::step` continues with the core from
+/// there.
 pub fn run<C: Capture>(
     alloc: Global,
     cells: u32,

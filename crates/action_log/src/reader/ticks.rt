@@ -49,8 +49,8 @@ fn read_u64(bytes: &[u8]) -> Option<(u64, &[u8])>
     Some((u64_at(bytes, 0), &bytes[8..]))
 }
 
-// Reads an action of a format, and returns it with the bytes after it.
-fn read_action(format: Format, bytes: &[u8]) -> Option<(Action, &[u8])>
+/// Reads an action of a format, and returns it with the bytes after it.
+pub(super) fn read_action(format: Format, bytes: &[u8]) -> Option<(Action, &[u8])>
     ensures { found_in result ≡ action_at format bytes.now }
 {
     let (kind, fields) = bytes.split_first()?;
@@ -109,8 +109,8 @@ pub(super) fn behind_gate(bytes: &[u8]) -> Option<&[u8]>
     }
 }
 
-// Reads the number of a tick's actions, and returns it with the bytes after it.
-fn action_count(bytes: &[u8]) -> Option<(usize, &[u8])>
+/// Reads the number of a tick's actions, and returns it with the bytes after it.
+pub(super) fn action_count(bytes: &[u8]) -> Option<(usize, &[u8])>
     ensures some { IfSome result (λ found. (format : Format)
         → tick_at format bytes.now ≡ several_at (action_at format) found.0 found.1.now) }
     ensures none { IfNone result ((format : Format) → tick_at format bytes.now ≡ None) }
@@ -124,8 +124,8 @@ fn action_count(bytes: &[u8]) -> Option<(usize, &[u8])>
     Some((count, rest))
 }
 
-// Reads the number of ticks of a group after its gate, and returns it with the bytes after it.
-fn tick_count(bytes: &[u8]) -> Option<(usize, &[u8])>
+/// Reads the number of ticks of a group after its gate, and returns it with the bytes after it.
+pub(super) fn tick_count(bytes: &[u8]) -> Option<(usize, &[u8])>
     ensures some { IfSome result (λ found. (format : Format)
         → group_at format bytes.now ≡ several_at (tick_at format) found.0 found.1.now) }
     ensures none { IfNone result ((format : Format) → group_at format bytes.now ≡ None) }

@@ -1,0 +1,186 @@
+-- Ticks that are replayed while they are read.
+use Rattle.std.proofs.Common.{◌≡◌, ℕ, length, ◌-◌, ◌+◌, ◌<◌, List, [], ◌∷◌, ◌++◌, Option, Some, None, Result, Ok, Err, refl, sym, ap, subst, ◌∙◌, append_assoc}
+use Rattle.std.specs.Prelude.{IsErr, OnOk, IfErr}
+use Rattle.std.specs.List.{flat_map}
+use Rattle.std.proofs.lemmas.Grind.{flat_map-append}
+use Rattle.std.proofs.lemmas.List.{append-nil}
+use Rattle.world_actions.specs.declared.action.Action.{Action}
+use Rattle.world_actions.specs.declared.refusal.Refusal.{Refusal}
+use Rattle.world_actions.specs.declared.refusal.Refusal.TheVariants.{BadLog}
+use Rattle.world_ticks.specs.After.{and_then, after_actions}
+use Rattle.world_ticks.proofs.AfterLemmas.{after_actions-append}
+use Rattle.file_format.specs.declared.gate.TheConstants.{OPEN_GATE}
+use Rattle.file_format.specs.declared.format.Format.{Format}
+use Rattle.action_log.specs.Segment.{Tick, joined, IsOpenSegment}
+use Rattle.action_log.specs.declared.reader.HeldTicks.{HeldTicks}
+use Rattle.action_log.specs.HeldLog.{or_none, ticks_in, AreHeld}
+use Rattle.action_log.specs.Reading.{◌>>=◌, Reader, action_at, tick_at, group_at, several_at, groups_of, ticks_of}
+use Rattle.action_log.specs.TickList.{actions_of}
+use Rattle.action_log.proofs.ValueReadingLemmas.{AreRead, read_next, read_none, bind_some, found_is, no_value}
+use Rattle.action_log.proofs.GroupLemmas.{joined_with}
+use Rattle.action_log.proofs.GroupReadingLemmas.{IsReadTo, groups_from, groups_by, read_to_bad, read_to_next}
+
+-- ---- the world
+
+-- these actions and then those
+pub done_then : (world middle last : List ℕ) (before after : List Action) → after_actions world before ≡ Ok middle → after_actions middle after ≡ Ok last
+    → after_actions world (before ++ after) ≡ Ok last
+done_then world middle last before after one other =
+    after_actions-append world before after ∙ ap (λ r. and_then r (λ next. after_actions next after)) one ∙ other
+
+refused_on : {A B E : Type 0} (r : Result A E) (next : A → Result B E) → IsErr r → IsErr (and_then r next)
+refused_on (Ok x) next is = absurd cc
+refused_on (Err e) next is = is
+
+-- actions that are refused after those that were done, whatever follows
+pub refused_then : (world middle : List ℕ) (before after more : List Action) → after_actions world before ≡ Ok middle → IsErr (after_actions middle after)
+    → IsErr (after_actions world ((before ++ after) ++ more))
+refused_then world middle before after more done refused =
+    let here : after_actions world (before ++ after) ≡ after_actions middle after =
+    after_actions-append world before after ∙ ap (λ r. and_then r (λ next. after_actions next after)) done in
+    subst (λ r. IsErr r) (sym (after_actions-append world (before ++ after) more))
+    (refused_on (after_actions world (before ++ after)) (λ next. after_actions next more) (subst (λ r. IsErr r) (sym here) refused))
+
+pub actions_with : (ticks more : List Tick) → actions_of (ticks ++ more) ≡ actions_of ticks ++ actions_of more
+actions_with ticks more = flat_map-append (λ (tick : Tick). tick) ticks more
+
+pub actions_one : (tick : Tick) → actions_of (tick ∷ []) ≡ tick
+actions_one tick = append-nil tick
+
+-- one more tick
+pub tick_done : (world middle last : List ℕ) (ticks : List Tick) (tick : Tick) → after_actions world (actions_of ticks) ≡ Ok middle
+    → after_actions middle tick ≡ Ok last → after_actions world (actions_of (ticks ++ tick ∷ [])) ≡ Ok last
+tick_done world middle last ticks tick one other =
+    ap (after_actions world) (actions_with ticks (tick ∷ []) ∙ ap (λ l. actions_of ticks ++ l) (actions_one tick))
+    ∙ done_then world middle last (actions_of ticks) tick one other
+
+-- more ticks
+pub ticks_done : (world middle last : List ℕ) (ticks more : List Tick) → after_actions world (actions_of ticks) ≡ Ok middle
+    → after_actions middle (actions_of more) ≡ Ok last → after_actions world (actions_of (ticks ++ more)) ≡ Ok last
+ticks_done world middle last ticks more one other =
+    ap (after_actions world) (actions_with ticks more) ∙ done_then world middle last (actions_of ticks) (actions_of more) one other
+
+-- ticks that are refused after those that were done, whatever follows
+pub ticks_refused : (world middle : List ℕ) (before after more : List Tick) → after_actions world (actions_of before) ≡ Ok middle
+    → IsErr (after_actions middle (actions_of after)) → IsErr (after_actions world (actions_of ((before ++ after) ++ more)))
+ticks_refused world middle before after more done refused =
+    subst (λ l. IsErr (after_actions world l))
+    (sym (actions_with (before ++ after) more ∙ ap (λ l. l ++ actions_of more) (actions_with before after)))
+    (refused_then world middle (actions_of before) (actions_of after) (actions_of more) done refused)
+
+-- ---- the values
+
+-- the values that are read so far are the first ones of all
+pub read_prefix : {X : Type 0} (one : Reader X) (many counter : ℕ) (values : List X) (bytes rest : List ℕ) (all : List X) (end : List ℕ)
+    → AreRead one many counter values bytes rest → several_at one many bytes ≡ Some (all, end) → (more : List X) × (values ++ more ≡ all)
+read_prefix one many counter values bytes rest all end r e =
+    let p = bind_some (several_at one (many - counter) rest) (λ others. Some (values ++ others.0, others.1)) (all, end) (sym r.all ∙ e) in
+    (p.0.0, ap (λ (q : List _ × List ℕ). q.0) (found_is (values ++ p.0.0, p.0.1) (all, end) p.2))
+
+-- if all values are read, then one more is, and it is the next of all
+pub read_further : {X : Type 0} (one : Reader X) (many counter : ℕ) (values : List X) (bytes rest : List ℕ) (all : List X) (end : List ℕ)
+    → counter < many → AreRead one many counter values bytes rest → several_at one many bytes ≡ Some (all, end)
+    → (x : X) × (next : List ℕ) × (one rest ≡ Some (x, next)) × ((more : List X) × ((values ++ x ∷ []) ++ more ≡ all))
+read_further {X = X} one many counter values bytes rest all end more r e = go (one rest) refl
+  where
+    go : (o : Option (X × List ℕ)) → one rest ≡ o → (x : X) × (next : List ℕ) × (one rest ≡ Some (x, next)) × ((more : List X) × ((values ++ x ∷ []) ++ more ≡ all))
+    go None is = absurd (no_value (all, end) (sym (read_none one many counter values bytes rest more is r) ∙ e))
+    go (Some p) is =
+        (p.0, p.1, is, read_prefix one many (counter + 1) (values ++ p.0 ∷ []) bytes p.1 all end (read_next one many counter values bytes rest p.1 p.0 more is r) e)
+
+-- an action that is read and refused: each tick of these bytes is refused
+pub tick_stops : (format : Format) (many counter : ℕ) (tick : Tick) (bytes rest next : List ℕ) (action : Action) (world words : List ℕ)
+    → counter < many → action_at format rest ≡ Some (action, next) → AreRead (action_at format) many counter tick bytes rest
+    → after_actions world tick ≡ Ok words → IsErr (after_actions words (action ∷ []))
+    → (all : Tick) (end : List ℕ) → several_at (action_at format) many bytes ≡ Some (all, end) → IsErr (after_actions world all)
+tick_stops format many counter tick bytes rest next action world words more here r done refused all end e =
+    let p = read_prefix (action_at format) many (counter + 1) (tick ++ action ∷ []) bytes next all end
+    (read_next (action_at format) many counter tick bytes rest next action more here r) e in
+    subst (λ l. IsErr (after_actions world l)) p.1 (refused_then world words tick (action ∷ []) p.0 done refused)
+
+-- a tick that is refused: all ticks of these bytes are refused
+pub group_stops : (format : Format) (many counter : ℕ) (ticks : List Tick) (bytes rest : List ℕ) (world words : List ℕ)
+    → counter < many → AreRead (tick_at format) many counter ticks bytes rest → after_actions world (actions_of ticks) ≡ Ok words
+    → ((tick : Tick) (next : List ℕ) → tick_at format rest ≡ Some (tick, next) → IsErr (after_actions words tick))
+    → (all : List Tick) (end : List ℕ) → several_at (tick_at format) many bytes ≡ Some (all, end) → IsErr (after_actions world (actions_of all))
+group_stops format many counter ticks bytes rest world words more r done refused all end e =
+    let p = read_further (tick_at format) many counter ticks bytes rest all end more r e in
+    let here : IsErr (after_actions words (actions_of (p.0 ∷ []))) = subst (λ l. IsErr (after_actions words l)) (sym (actions_one p.0)) (refused p.0 p.1 p.2) in
+    subst (λ l. IsErr (after_actions world (actions_of l))) p.3.1 (ticks_refused world words ticks (p.0 ∷ []) p.3.0 done here)
+
+-- the groups that are read so far are the first ones of all
+pub groups_prefix : (format : Format) (bytes : List ℕ) (done : List (List Tick)) (rest : List ℕ) (groups : List (List Tick))
+    → IsReadTo format bytes done rest → groups_of format bytes ≡ Some groups → (more : List (List Tick)) × (done ++ more ≡ groups)
+groups_prefix format bytes done rest groups r e =
+    let parts = bind_some (groups_from format r.most rest) (λ others. Some (done ++ others)) groups (sym r.all ∙ e) in
+    (parts.0, found_is (done ++ parts.0) groups parts.2)
+
+-- ---- what is replayed so far
+
+-- some of the actions of a tick are read from bytes and replayed, and these bytes are left
+pub record IsTickReplayed (format : Format) (many counter : ℕ) (bytes rest world words : List ℕ) : Type 0 where
+  pub tick : Tick
+  pub read : AreRead (action_at format) many counter tick bytes rest
+  pub done : after_actions world tick ≡ Ok words
+
+-- some of the ticks of a group
+pub record IsGroupReplayed (format : Format) (many counter : ℕ) (bytes rest world words : List ℕ) : Type 0 where
+  pub ticks : List Tick
+  pub read : AreRead (tick_at format) many counter ticks bytes rest
+  pub done : after_actions world (actions_of ticks) ≡ Ok words
+
+-- some of the groups
+pub record AreGroupsReplayed (format : Format) (bytes rest world words : List ℕ) : Type 0 where
+  pub groups : List (List Tick)
+  pub so_far : IsReadTo format bytes groups rest
+  pub done : after_actions world (actions_of (joined groups)) ≡ Ok words
+
+-- ---- ticks that are held
+
+-- an open segment with these ticks holds them in its bytes
+pub held_open : (bytes : List ℕ) (base : ℕ) (held : HeldTicks) (list : List Tick) → ticks_of held.format held.groups.now ≡ Some list
+    → IsOpenSegment bytes base list → length list ≡ held.count → IsOpenSegment bytes base (ticks_in held) × AreHeld held
+held_open bytes base held list formed opened so_many =
+    let is : ticks_in held ≡ list = ap or_none formed in
+    (subst (λ l. IsOpenSegment bytes base l) (sym is) opened, record { formed = formed ∙ ap (λ l. Some l) (sym is); so_many = sym so_many ∙ ap length (sym is) })
+
+-- ticks that the bytes have are those that are held
+pub held_same : (held : HeldTicks) (list : List Tick) → ticks_of held.format held.groups.now ≡ Some list → list ≡ ticks_in held
+held_same held list read = sym (ap or_none read)
+
+-- nothing that isn't read is a value
+pub none_at : {X : Type 0} {P : Type 0} {o : Option X} {x : X} → o ≡ None → o ≡ Some x → P
+none_at {x = x} none some = absurd (no_value x (sym none ∙ some))
+
+-- a group that is refused: all ticks of these bytes are refused
+pub groups_stop : (format : Format) (bytes : List ℕ) (done : List (List Tick)) (rest behind : List ℕ) (world words : List ℕ)
+    → IsReadTo format bytes done rest → rest ≡ OPEN_GATE ∷ behind → after_actions world (actions_of (joined done)) ≡ Ok words
+    → ((ticks : List Tick) (next : List ℕ) → group_at format behind ≡ Some (ticks, next) → IsErr (after_actions words (actions_of ticks)))
+    → (all : List Tick) → ticks_of format bytes ≡ Some all → IsErr (after_actions world (actions_of all))
+groups_stop format bytes done rest behind world words r gate so_far refused all e =
+    let groups = groups_by format bytes all e in
+    go groups (group_at format behind) refl
+  where
+    go : ((groups : List (List Tick)) × (groups_of format bytes ≡ Some groups) × (joined groups ≡ all)) → (o : Option (List Tick × List ℕ)) → group_at format behind ≡ o
+        → IsErr (after_actions world (actions_of all))
+    go groups None is = none_at (read_to_bad format bytes done rest behind r gate is) groups.1
+    go groups (Some p) is =
+        let next = (read_to_next format bytes done rest behind p.0 p.1 r gate is).0 in
+        let more = groups_prefix format bytes (done ++ p.0 ∷ []) p.1 groups.0 next groups.1 in
+        let ticks : (joined done ++ p.0) ++ joined more.0 ≡ all =
+        ap (λ l. l ++ joined more.0) (sym (joined_with done p.0)) ∙ sym (flat_map-append (λ (group : List Tick). group) (done ++ p.0 ∷ []) more.0) ∙ ap joined more.1 ∙ groups.2 in
+        subst (λ l. IsErr (after_actions world (actions_of l))) ticks (ticks_refused world words (joined done) p.0 (joined more.0) so_far (refused p.0 p.1 is))
+
+-- ---- ticks that are held, replayed
+
+pub held_done : (held : HeldTicks) (world words : List ℕ) (r : Result (Unit {0}) Refusal)
+    → OnOk r ((ticks : List Tick) × (ticks_of held.format held.groups.now ≡ Some ticks) × (after_actions world (actions_of ticks) ≡ Ok words))
+    → OnOk r (after_actions world (actions_of (ticks_in held)) ≡ Ok words)
+held_done held world words (Ok _) done = subst (λ l. after_actions world (actions_of l) ≡ Ok words) (held_same held done.0 done.1) done.2
+held_done held world words (Err refusal) done = done
+
+pub held_refused : (held : HeldTicks) (world : List ℕ) (r : Result (Unit {0}) Refusal) → AreHeld held
+    → IfErr r (λ refusal. (refusal ≡ BadLog) × ((ticks : List Tick) → ticks_of held.format held.groups.now ≡ Some ticks → IsErr (after_actions world (actions_of ticks))))
+    → IfErr r (λ refusal. (refusal ≡ BadLog) × IsErr (after_actions world (actions_of (ticks_in held))))
+held_refused held world (Ok _) are refused = refused
+held_refused held world (Err refusal) are refused = (refused.0, refused.1 (ticks_in held) are.formed)
