@@ -3,7 +3,7 @@
 
     scripts/trusted_lines.py                  for README's promises, and for all that its crates hand out
     scripts/trusted_lines.py unreached        the definitions that no contract of a crate reaches, too
-    scripts/trusted_lines.py of CRATE NAME    for one function's contract
+    scripts/trusted_lines.py of CRATE NAME    for one function's contract, as `step` or `Together::step`
 
 For README's promises, its theorem and its table, these are the contracts that they cite, those of all traits, which are
 premises on disks, folders and sessions, and the definitions in specs/, the types and the constants that they reach. The
@@ -296,8 +296,10 @@ def main() -> None:
     tree, one = Tree(), sys.argv[2:4] if sys.argv[1:2] == ["of"] else None
     print(f"code {tree.lines['src']}, specs {tree.lines['specs']}, proofs {tree.lines['proofs']}: {tree.everything()} lines")
     asked: dict[str, Wanted] = {"the promises of README": tree.of_readme, "all that crates hand out": handed_out}
-    for which, wanted in {" ".join(one): of_one(*one)}.items() if one else asked.items():
+    for which, wanted in {" ".join(one): of_one(one[0], one[1].split("::")[-1])}.items() if one else asked.items():
         contracts, defined = tree.believed(wanted)
+        if not contracts:
+            sys.exit(f"trusted_lines.py: there is no {which}")
         share = 100 * (contracts + defined) / tree.everything()
         print(f"to believe for {which}: {contracts + defined} lines, {share:.1f}%: contracts {contracts}, definitions {defined}")
     if sys.argv[1:] == ["unreached"]:
