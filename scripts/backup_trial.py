@@ -22,7 +22,7 @@ import threading
 from collections.abc import Iterator
 
 import kill_trial
-from kill_trial import Batch, Client, Request, Server, answer, collected
+from kill_trial import Batch, Client, Request, Server, answer, collected, until_stopped
 from trial import METHODS, SOCKET, TRANSPORTS, Wrong, ask, connect, create, flags_of, parser_of, status_in_folder, summary
 
 EVERY = 1, 8, 64
@@ -57,12 +57,10 @@ def random_request(chance: random.Random) -> Request:
             return "cap", cell, amount
 
 
-def batches(seed: str, client: int, stop: threading.Event) -> Iterator[Batch]:
-    """The batches of a client until it is to stop: random lines between two marks, of which each image has both."""
+def batches(seed: str, client: int) -> Iterator[Batch]:
+    """The batches of a client: random lines between two marks, of which each image has both."""
     chance = random.Random(seed)
     for serial in itertools.count(1):
-        if stop.is_set():
-            return
         mark = serial * CLIENTS + client
         lines = (random_request(chance) for _ in range(chance.randrange(20)))
         yield ("get", FIRST_MARK), ("set", FIRST_MARK, mark), ("add", COUNT, 1), *lines, ("set", LAST_MARK, mark)
@@ -142,7 +140,8 @@ class Trial:
             server.watch.cancel()
             server.line()
             address, stop = server.listen(), threading.Event()
-            clients = [Client(address, batches(f"{self.seed} {number} {n}", n, stop), server.killed) for n in range(CLIENTS)]
+            plans = [until_stopped(batches(f"{self.seed} {number} {n}", n), stop) for n in range(CLIENTS)]
+            clients = [Client(address, plan, server.killed) for plan in plans]
             for client in clients:
                 client.start()
             try:
@@ -184,9 +183,8 @@ class Trial:
 
 def main() -> int:
     """Runs the trial, and keeps the files where it fails."""
-    parser = parser_of(__doc__, "of the batches")
+    parser = parser_of(__doc__, "of the batches", has_dir=True)
     parser.add_argument("--backups", type=int, default=60, help="how many copies are taken (60)")
-    parser.add_argument("--dir", help="where the folders of the worlds are made (the system's for temporary files)")
     given = parser.parse_args()
     return status_in_folder("backup_trial", given, lambda room: Trial(given.worldd, room, given.seed).run(given.backups))
 

@@ -144,6 +144,11 @@ def batches(seed: str, client: int, run: int) -> Iterator[Batch]:
         yield *begin, *(random_request(chance) for _ in range(lines)), ("set", LAST_MARK, mark)
 
 
+def until_stopped(plan: Iterator[Batch], stop: threading.Event) -> Iterator[Batch]:
+    """The batches of a plan until it is to stop."""
+    return itertools.takewhile(lambda _: not stop.is_set(), plan)
+
+
 def line_of(request: Request) -> str:
     """The line that asks for it."""
     return " ".join(map(str, request))
@@ -444,10 +449,9 @@ class Trial:
 
 def main() -> int:
     """Runs the trial, and keeps the files where it fails."""
-    parser = parser_of(__doc__, "of the batches and the moments")
+    parser = parser_of(__doc__, "of the batches and the moments", has_dir=True)
     parser.add_argument("--kills", type=int, default=200, help="how many times a serving worldd is killed (200)")
     parser.add_argument("--seconds", type=float, default=float("inf"), help="begin no kill after so many seconds")
-    parser.add_argument("--dir", help="where the folder of the world is made (the system's for temporary files)")
     given = parser.parse_args()
     most = given.kills, given.seconds
     return status_in_folder("kill_trial", given, lambda room: Trial(given.worldd, room, given.seed).run(*most))

@@ -19,7 +19,7 @@ from collections.abc import Iterator
 
 import backup_trial
 import kill_trial
-from kill_trial import CLIENTS, Batch, Client, Server
+from kill_trial import CLIENTS, Batch, Client, Server, until_stopped
 from trial import METHODS, TRANSPORTS, Wrong, ask, create, flags_of, library_of, parser_of, status_in_folder
 
 # The worlds: how many cells they have, and after how many ticks an image is written. With images so rare looks are slowed:
@@ -47,14 +47,9 @@ class Player(Client):
         self.last = int(match[1])
 
 
-def batches(seed: str, client: int, cells: int, stop: threading.Event) -> Iterator[Batch]:
-    """The batches of a client until it is to stop."""
-    if cells > kill_trial.CELLS:
-        yield from backup_trial.batches(seed, client, stop)
-    for batch in kill_trial.batches(seed, client, 0):
-        if stop.is_set():
-            return
-        yield batch
+def batches(seed: str, client: int, cells: int) -> Iterator[Batch]:
+    """The batches of a client on a world of so many cells."""
+    return backup_trial.batches(seed, client) if cells > kill_trial.CELLS else kill_trial.batches(seed, client, 0)
 
 
 class Trial:
@@ -95,7 +90,7 @@ class Trial:
             server.watch.cancel()
             server.line()
             address = server.listen()
-            plans = [batches(f"{self.seed} {number} {n}", n, cells, stop) for n in range(CLIENTS)]
+            plans = [until_stopped(batches(f"{self.seed} {number} {n}", n, cells), stop) for n in range(CLIENTS)]
             clients = [Player(address, plan, server.killed) for plan in plans]
             for client in clients:
                 client.start()
@@ -126,9 +121,8 @@ class Trial:
 
 def main() -> int:
     """Runs the trial, and keeps the files where it fails."""
-    parser = parser_of(__doc__, "of the batches")
+    parser = parser_of(__doc__, "of the batches", has_dir=True)
     parser.add_argument("--looks", type=int, default=160, help="how often a world is looked at (160)")
-    parser.add_argument("--dir", help="where the folders of the worlds are made (the system's for temporary files)")
     given = parser.parse_args()
     return status_in_folder("looks_trial", given, lambda room: Trial(given.worldd, room, given.seed).run(given.looks))
 

@@ -48,12 +48,15 @@ def compare(what: str, got: object, wanted: object) -> None:
 # The trial.
 
 
-def parser_of(about: str, seeds: str = "") -> argparse.ArgumentParser:
-    """A parser of the command line of a trial of worldd, with the first line on it. A seed has a flag, if it seeds anything."""
+def parser_of(about: str, seeds: str = "", has_dir: bool = False) -> argparse.ArgumentParser:
+    """A parser of the command line of a trial of worldd, with the first line on it. A seed has a flag, if it seeds anything, and
+    so may the place of the files."""
     parser = argparse.ArgumentParser(description=about.splitlines()[0])
     parser.add_argument("worldd", type=absolute, help="the built program")
     if seeds:
         parser.add_argument("--seed", type=int, default=time.time_ns() % 10**9, help=seeds)
+    if has_dir:
+        parser.add_argument("--dir", help="where the files are made (the system's folder for temporary files)")
     return parser
 
 
