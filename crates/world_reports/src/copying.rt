@@ -54,13 +54,15 @@ pub enum NotCopied {
     Unreadable(Ending),
 }
 
-impl NotCopied {
-    /// How the program ends.
-    pub fn ending(self) -> Ending
-        requires { IsNotCopied self }
-        ensures { IsFault result }
-    {
-        match self {
+/// How the program ends.
+impl From<NotCopied> for Ending {
+    ghost use Rattle.world_folder.specs.Ending.{IsFault};
+    ghost use Rattle.world_reports.specs.Copying.{IsNotCopied};
+
+    ghost from_gives = { λ reason ending. IsNotCopied reason → IsFault ending };
+
+    fn from(reason: NotCopied) -> Self {
+        match reason {
             NotCopied::NoImage => Ending::NoWorld(Fault::NoImage),
             NotCopied::Unsteady(ending) | NotCopied::Unreadable(ending) => ending,
         }

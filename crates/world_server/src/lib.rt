@@ -13,6 +13,7 @@ mod lines;
 mod place;
 mod printer;
 mod reporter;
+mod runtime;
 mod served;
 mod service;
 mod serving;
@@ -23,6 +24,7 @@ mod system_front;
 
 pub use front::Front;
 pub use line::Line;
+pub use runtime::Runtime;
 pub use served::{Served, WorldFailure, serve_world};
 pub use service::{Address, Clients, Every, Service};
 pub use serving::serve;

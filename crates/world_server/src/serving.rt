@@ -4,6 +4,7 @@ ghost use Rattle.world_server.specs.Serving.{EndsServing, StopsWith};
 ghost use Rattle.world_server.specs.Served.{EndsAsFailed, EndsBy};
 
 use crate::lines::Lines;
+use crate::runtime::Runtime;
 use crate::served::{Served, WorldFailure, serve_world};
 use crate::service::Service;
 use crate::system_front::SystemFront;
@@ -12,30 +13,17 @@ use file_disk::FileDisk;
 use file_readers::read_files;
 use shared_capture::{Kind, Method, Pong, Zig};
 use std::alloc::Global;
-use std::fs::{File, Files};
 use std::net::{Net, TcpListener, TcpStream};
-use std::sync::Wait;
-use std::thread::Threads;
-use std::time::Clock;
 use worker_threads::Seats;
 use world_actions::Refusal;
 use world_folder::{Ending, Fault, NotRecovered, failure_of, open_existing, stands_in};
 
 /// Serves the world in a folder to so many clients. It prints which world was recovered, where it
 /// listens, and how far play came.
-pub fn serve<
-    R: Threads
-        + Wait
-        + Clock
-        + Net<Listener = TcpListener, Stream = TcpStream>
-        + Files<File = File>
-        + Print
-        + Eprint
-        + AllocGlobal
-        + Copy
-        + Send
-        + 'static,
->(rt: &R, service: &Service<'_>) -> Ending
+pub fn serve<R: Runtime + Net<Listener = TcpListener, Stream = TcpStream> + Copy + Send + 'static>(
+    rt: &R,
+    service: &Service<'_>,
+) -> Ending
     ensures ends { EndsServing result }
 {
     let served = match service.method {
@@ -50,17 +38,7 @@ pub fn serve<
 
 // Serves by this method, which has to be the one that is asked for.
 fn serve_by<
-    R: Threads
-        + Wait
-        + Clock
-        + Net<Listener = TcpListener, Stream = TcpStream>
-        + Files<File = File>
-        + Print
-        + Eprint
-        + AllocGlobal
-        + Copy
-        + Send
-        + 'static,
+    R: Runtime + Net<Listener = TcpListener, Stream = TcpStream> + Copy + Send + 'static,
     M: Seats + Send + 'static,
 >(rt: &R, service: &Service<'_>) -> Result<Ending, Ending>
     requires { service.now.method ≡ M.KIND }

@@ -9,6 +9,7 @@ use crate::line::Line;
 use crate::lines::Lines;
 use crate::place::Place;
 use crate::reporter::start_reporter;
+use crate::runtime::Runtime;
 use crate::service::{Address, Service};
 use crate::socket::listen_at;
 use crate::standing::{Losses, Standing};
@@ -46,17 +47,7 @@ pub struct SystemFront<'a, R: Wait + Clock + Net + Files + Copy> {
 
 impl<
     'a,
-    R: Threads
-        + Wait
-        + Clock
-        + Net<Listener = TcpListener, Stream = TcpStream>
-        + Files<File = File>
-        + Print
-        + Eprint
-        + AllocGlobal
-        + Copy
-        + Send
-        + 'static,
+    R: Runtime + Net<Listener = TcpListener, Stream = TcpStream> + Copy + Send + 'static,
 > SystemFront<'a, R> {
     /// Starts the threads of the streams.
     pub fn start(rt: &R, service: &Service<'a>) -> Result<Self, Ending>
@@ -107,17 +98,7 @@ impl<
 
 impl<
     'a,
-    R: Threads
-        + Wait
-        + Clock
-        + Net<Listener = TcpListener, Stream = TcpStream>
-        + Files<File = File>
-        + Print
-        + Eprint
-        + AllocGlobal
-        + Copy
-        + Send
-        + 'static,
+    R: Runtime + Net<Listener = TcpListener, Stream = TcpStream> + Copy + Send + 'static,
     M: Method,
 > Front<M, FileDisk, Lines<R>> for SystemFront<'a, R> {
     ghost use Rattle.std.specs.Prelude.{false, []};

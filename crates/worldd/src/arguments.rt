@@ -144,6 +144,16 @@ pub fn value_argument<'a>(alloc: Global, name: &'a str, value: &'a str, help: &'
         .help(help)
 }
 
+/// An argument without a value, by its long name.
+pub fn flag_argument<'a>(alloc: Global, name: &'a str, help: &'a str) -> Arg<'a>
+    ensures { IsArgument (flag_rule name.entry.now) result }
+{
+    Arg::new(alloc, name)
+        .long(name)
+        .action(ArgAction::SetTrue)
+        .help(help)
+}
+
 // The argument that names a folder.
 fn folder_argument<'a>(alloc: Global) -> Arg<'a>
     ensures { IsArgument folder_rule result }
@@ -176,10 +186,8 @@ fn to_argument<'a>(alloc: Global) -> Arg<'a>
 fn words_argument<'a>(alloc: Global) -> Arg<'a>
     ensures { IsArgument (flag_rule (codes "words")) result }
 {
-    Arg::new(alloc, WORDS)
-        .long(WORDS)
-        .action(ArgAction::SetTrue)
-        .help("Prints the words of the world too, on a line of their own")
+    let help = "Prints the words of the world too, on a line of their own";
+    flag_argument(alloc, WORDS, help)
 }
 
 /// The number of this name, if it has one.

@@ -14,10 +14,10 @@ ghost use Rattle.worldd.specs.Invocation.{IsCommand};
 ghost use Rattle.worldd.specs.Service.{AsksFor, AsksForAddress};
 ghost use Rattle.worldd.specs.Values.{HasNumber};
 
-use crate::arguments::{FOLDER, folder_command, number_of, value_argument};
+use crate::arguments::{FOLDER, flag_argument, folder_command, number_of, value_argument};
 use crate::help::SERVE_HELP;
 use clap::error::Error;
-use clap::{Arg, ArgAction, ArgGroup, ArgMatches, Command, value_parser};
+use clap::{Arg, ArgGroup, ArgMatches, Command, value_parser};
 use shared_capture::Kind;
 use std::alloc::{AllocError, Global};
 use world_server::{Address, Clients, Every, Service, SocketMode};
@@ -179,10 +179,8 @@ fn report_argument<'a>(alloc: Global) -> Arg<'a>
 fn exit_argument<'a>(alloc: Global) -> Arg<'a>
     ensures { IsArgument (flag_rule (codes "exit-when-log-down")) result }
 {
-    Arg::new(alloc, EXIT_WHEN_LOG_DOWN)
-        .long(EXIT_WHEN_LOG_DOWN)
-        .action(ArgAction::SetTrue)
-        .help("Ends with status 12 as soon as the log is down")
+    let help = "Ends with status 12 as soon as the log is down";
+    flag_argument(alloc, EXIT_WHEN_LOG_DOWN, help)
 }
 
 fn closed_argument<'a>(alloc: Global) -> Arg<'a>
