@@ -53,8 +53,14 @@ pub fn copy_into<F: Folder, T: Folder>(
     ensures fault { IfErr result IsFault }
 {
     look_for_room(alloc, into, to)?;
-    let copied = copy_world(alloc, from, path, Images::Newest)?;
-    let read = stands_in(alloc, &copied.files)?;
+    let copied = match copy_world(alloc, from, path, Images::Newest) {
+        Ok(copied) => copied,
+        Err(reason) => return Err(reason.ending()),
+    };
+    let read = match stands_in(alloc, &copied.files) {
+        Ok(read) => read,
+        Err(fault) => return Err(Ending::NoWorld(fault)),
+    };
     let files = write_files(alloc, into, to, &copied.files, read.slot)?;
     let verified = verify(alloc, into, to, &read)?;
     warn_of_tries(into, copied.tries)?;

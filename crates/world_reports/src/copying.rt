@@ -54,15 +54,13 @@ pub enum NotCopied {
     Unreadable(Ending),
 }
 
-/// How the program ends.
-impl From<NotCopied> for Ending {
-    ghost use Rattle.world_folder.specs.Ending.{IsFault};
-    ghost use Rattle.world_reports.specs.Copying.{IsNotCopied};
-
-    ghost from_gives = { λ reason ending. IsNotCopied reason → IsFault ending };
-
-    fn from(reason: NotCopied) -> Self {
-        match reason {
+impl NotCopied {
+    /// How the program ends.
+    pub fn ending(self) -> Ending
+        requires { IsNotCopied self }
+        ensures { IsFault result }
+    {
+        match self {
             NotCopied::NoImage => Ending::NoWorld(Fault::NoImage),
             NotCopied::Unsteady(ending) | NotCopied::Unreadable(ending) => ending,
         }

@@ -119,8 +119,14 @@ fn print_figures<F: Folder>(alloc: Global, folder: &mut F, path: &str) -> Result
         → OnOk result (AreFiguresReported (F.history folder.old) (F.history folder.new)) }
     ensures fault { IfErr result IsFault }
 {
-    let copied = copy_world(alloc, folder, path, Images::Newest)?;
-    let figures = figures_of(alloc, &copied.files)?;
+    let copied = match copy_world(alloc, folder, path, Images::Newest) {
+        Ok(copied) => copied,
+        Err(reason) => return Err(reason.ending()),
+    };
+    let figures = match figures_of(alloc, &copied.files) {
+        Ok(figures) => figures,
+        Err(fault) => return Err(Ending::NoWorld(fault)),
+    };
     folder.print(figures)?;
     folder.print(Lengths(copied.lengths))?;
     Ok(())

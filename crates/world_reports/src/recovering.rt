@@ -36,7 +36,10 @@ pub fn report_world<F: Folder>(alloc: Global, folder: &mut F, path: &str) -> Res
 {
     let seen = look_at_folder(alloc, folder, path)?;
     let files = all_read(alloc, path, seen.files)?;
-    let found = stands_in(alloc, &files)?;
+    let found = match stands_in(alloc, &files) {
+        Ok(found) => found,
+        Err(fault) => return Err(Ending::NoWorld(fault)),
+    };
     warn_of_doubt(folder, found.tick, &files)?;
     folder.print(RecoveredLine(WorldReport::of(&found)))?;
     Ok(())
@@ -90,5 +93,8 @@ pub fn found_in(
     ensures fault { IfErr result IsFault }
 {
     let files = all_read(alloc, folder, files)?;
-    Ok(stands_in(alloc, &files)?)
+    match stands_in(alloc, &files) {
+        Ok(found) => Ok(found),
+        Err(fault) => Err(Ending::NoWorld(fault)),
+    }
 }

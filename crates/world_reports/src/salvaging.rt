@@ -79,11 +79,17 @@ fn readable_in<T: Folder>(
         → IfOk result (λ files. AreTakenOf read files (T.history into.old) (T.history into.new)) }
     ensures fault { IfErr result IsFault }
 {
+    let FourFiles {
+        image_a,
+        image_b,
+        log_a,
+        log_b,
+    } = read;
     Ok(FourFiles {
-        image_a: readable(alloc, path, read.image_a, into)?,
-        image_b: readable(alloc, path, read.image_b, into)?,
-        log_a: readable(alloc, path, read.log_a, into)?,
-        log_b: readable(alloc, path, read.log_b, into)?,
+        image_a: readable(alloc, path, image_a, into)?,
+        image_b: readable(alloc, path, image_b, into)?,
+        log_a: readable(alloc, path, log_a, into)?,
+        log_b: readable(alloc, path, log_b, into)?,
     })
 }
 
