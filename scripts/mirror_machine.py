@@ -129,7 +129,9 @@ class Pair:
     def step(self) -> None:
         """Serves disks and wire for a moment, and takes the lines that come."""
         streams = [stream for machine in self.machines.values() for stream in machine.streams]
-        select.select([*streams, self.wire], [], [], DISK_SECONDS)
+        due = [machine.due[0][0] for machine in self.machines.values() if machine.due]
+        due += [packets[0][0] for packets in self.packets.values() if packets]
+        select.select([*streams, self.wire], [], [], max(0.0, min([0.05, *(at - time.monotonic() for at in due)])))
         self.carry()
         events = [(name, *event) for name, machine in self.machines.items() for event in machine.events(DISK_SECONDS, 0)]
         for name, port, line in events:
