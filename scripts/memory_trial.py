@@ -3,7 +3,7 @@
 
     scripts/memory_trial.py crates/worldd/out/worldd
 
-First each call that takes memory, by the program trial_memory; then a script over each store, create, recover and
+First the calls of the program trial_memory that take memory; then a script over each store, create, recover and
 inspect, and serve, by either method over a port and over a socket: each is run again and again, the Nth time with its Nth
 allocation refused, until it has none left to refuse. It needs a C compiler, as cc.
 """
@@ -174,7 +174,7 @@ def code_of(kind: str) -> str | None:
 
 
 def try_calls(refuser: Refuser) -> collections.Counter[str]:
-    """Makes each call that takes memory, and gives how often each was refused, and with which code."""
+    """Makes the calls that take memory, and gives how often each was refused, and with which code."""
     refused: collections.Counter[str] = collections.Counter()
     for number in itertools.count(1):
         run = refuser.run([CALLS], number, which="REFUSED_IN_STRETCH")

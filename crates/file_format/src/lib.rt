@@ -2,9 +2,9 @@
 //! byte 0 says whether the rest counts. The number after the gate has the mark of the file's
 //! format. Numbers have their lowest byte first.
 //!
-//! A file's gate is opened last, after the rest is durable. It is closed before anything after it
-//! changes. A gate of any other value than `OPEN_GATE` counts as closed, so a torn write of it
-//! reads as closed or as whole.
+//! A file's gate is opened last, after the rest is durable. An image's is closed before anything
+//! after it changes, a log's before its file begins anew. A gate of any other value than
+//! `OPEN_GATE` counts as closed, so a torn write of it reads as closed or as whole.
 #![tactic(auto)]
 
 mod format;

@@ -237,7 +237,8 @@ fn list_change(marks: &[u64], away: &[u64], changed: &mut Vec<usize>, k: usize)
     }
 }
 
-// Sets the marks so that the writes of each cell go to the array without its live word.
+// Sets the marks so that the writes of each cell go to the array without its live word. Its
+// parameters are the fields of a front that it borrows apart.
 fn turn_marks<M: Method>(
     table: &SharedTable<M>,
     seat: &mut TableSeat,

@@ -1,7 +1,7 @@
-//! The program `trial_memory`: makes calls whose allocations are refused. Each call that takes
-//! memory is made while one of its allocations may be refused, and once more if it was. The calls
-//! that take none are made while each allocation would be refused. It prints how each call went. It
-//! fails if a refused call left other values than it may, or gave another answer the second time.
+//! The program `trial_memory`: makes calls whose allocations are refused. A call that takes memory
+//! is made while one of its allocations may be refused, and once more if it was. A call that takes
+//! none is made while each allocation would be refused. It prints how each call went. It fails if a
+//! refused call left other values than it may, or gave another answer the second time.
 //! It refuses nothing by itself: `scripts/memory_trial.py` runs it with a library that refuses each
 //! allocation in turn.
 #![tactic(auto)]

@@ -1,10 +1,18 @@
 -- How often a thread looks for what it waits for before it sleeps.
-use Rattle.std.specs.Prelude.{ℕ, ◌-◌, nat_lt, if◌then◌else◌}
+use Rattle.std.specs.Prelude.{ℕ, ◌+◌, ◌-◌, ◌&&◌, nat_lt, not, if◌then◌else◌}
 
 -- a session looks for its post while fewer sessions wait than there are processors
 abbrev pub session_looks : (waiting processors : ℕ) → ℕ
 session_looks waiting processors = if nat_lt waiting processors then 100 else 0
 
--- a worker looks for work while more than twice as many sessions wait as there are processors
-abbrev pub worker_looks : (waiting processors : ℕ) → ℕ
-worker_looks waiting processors = if nat_lt processors (waiting - processors) then 200 else 0
+-- a worker looks for work while more than twice as many sessions wait as there are processors;
+-- while fewer wait it looks longer, on four processors or more, until four waits in a row missed
+abbrev pub worker_looks : (waiting processors misses : ℕ) → ℕ
+worker_looks waiting processors misses =
+    if nat_lt processors (waiting - processors) then 200 else
+    if not (nat_lt processors 4) && nat_lt misses 4 then 1000 else
+    0
+
+-- the misses that count after one more: sixteen waits after the fourth, a worker looks again
+abbrev pub misses_after : (misses : ℕ) → ℕ
+misses_after misses = if nat_lt misses 20 then misses + 1 else 3

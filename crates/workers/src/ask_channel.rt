@@ -7,7 +7,7 @@ ghost use Rattle.workers.specs.AskChannel.{AreOneAskChannel, with_ask};
 
 use crate::ask_rule::{AskView, BeginSession, InTurn, PartEnds, TakeAsk};
 use crate::asker::Asker;
-use crate::looks::Looks;
+use crate::looks::{Looks, WorkerLooks};
 use crate::post::Ask;
 use crossbeam_channel::{Pass, RecvError, RuledReceiver, RuledSender, TryRecvError, bounded_with};
 use std::alloc::{AllocError, Global};
@@ -53,9 +53,8 @@ impl Model for AskChannel {
 pub struct AskReceiver {
     end: AskReceiveEnd,
     pass: Pass<Ask, AskView>,
-    /// How often it looks for an ask before it sleeps. If this is `None`, it waits as
-    /// the channel does.
-    looks: Option<Looks>,
+    /// How often it looks for an ask before it sleeps.
+    looks: WorkerLooks,
 }
 
 impl Model for AskReceiver {
@@ -88,7 +87,7 @@ impl AskChannel {
             AskReceiver {
                 end: AskReceiveEnd { end: from },
                 pass: other,
-                looks: None,
+                looks: WorkerLooks::none(),
             },
         ))
     }
@@ -118,15 +117,7 @@ impl AskReceiver {
     pub fn look_by(&mut self, looks: Looks)
         ensures { self.new ≡ self.old }
     {
-        self.looks = Some(looks);
-    }
-
-    // How often it looks before it sleeps.
-    fn looks(&self) -> u32 {
-        match &self.looks {
-            Some(looks) => looks.of_worker(),
-            None => 0,
-        }
+        self.looks = WorkerLooks::by(looks);
     }
 
     /// Waits for the next ask. Returns `None` if no session is left that could ask.
@@ -135,13 +126,17 @@ impl AskReceiver {
             (λ ask. self.new ≡ with_ask self.old ask) }
         ensures numbered { IfSome result (λ ask. AreNumbered (self.old.taken ++ ask ∷ [])) }
     {
-        for _ in 0..self.looks() {
+        for _ in 0..self.looks.count() {
             match self.try_take(rt) {
-                Ok(ask) => return Some(ask),
+                Ok(ask) => {
+                    self.looks.found();
+                    return Some(ask);
+                }
                 Err(TryRecvError::Disconnected) => return None,
                 Err(TryRecvError::Empty) => thread::yield_now(),
             }
         }
+        self.looks.missed();
         self.sleep(rt).ok()
     }
 

@@ -11,7 +11,7 @@ ghost use Rattle.workers.specs.Channel.{IsBegun, AreOneChannel, with_item, with_
 
 use crate::item::{Item, View};
 use crate::item_rule::{All, InOrder, Move, Part, Pop, Push, Whole};
-use crate::looks::Looks;
+use crate::looks::{Looks, WorkerLooks};
 use crossbeam_channel::{Pass, RecvError, RuledReceiver, RuledSender, TryRecvError, bounded_with};
 use restart::QUEUE_RECORDS;
 use std::alloc::{AllocError, Global};
@@ -58,9 +58,8 @@ impl Model for ItemSender {
 pub struct ItemReceiver {
     end: ReceiveEnd,
     pass: Pass<Item, View>,
-    /// How often it looks for an item before it sleeps. If this is `None`, it waits as
-    /// the channel does.
-    looks: Option<Looks>,
+    /// How often it looks for an item before it sleeps.
+    looks: WorkerLooks,
 }
 
 impl Model for ItemReceiver {
@@ -109,7 +108,7 @@ pub fn open<R: Wait>(
         ItemReceiver {
             end: ReceiveEnd { end: from },
             pass: other,
-            looks: None,
+            looks: WorkerLooks::none(),
         },
     ))
 }
@@ -138,15 +137,7 @@ impl ItemReceiver {
     pub(crate) fn look_by(&mut self, looks: Looks)
         ensures { self.new ≡ self.old }
     {
-        self.looks = Some(looks);
-    }
-
-    // How often it looks before it sleeps.
-    fn looks(&self) -> u32 {
-        match &self.looks {
-            Some(looks) => looks.of_worker(),
-            None => 0,
-        }
+        self.looks = WorkerLooks::by(looks);
     }
 
     /// Pops the item at the front, and waits while the channel is empty.
@@ -156,13 +147,17 @@ impl ItemReceiver {
             (λ _. self.new ≡ self.old) }
         ensures goes { IfOk result (λ x. Goes (items_end self.old.items) x) }
     {
-        for _ in 0..self.looks() {
+        for _ in 0..self.looks.count() {
             match self.try_pop(rt) {
-                Ok(item) => return Ok(item),
+                Ok(item) => {
+                    self.looks.found();
+                    return Ok(item);
+                }
                 Err(TryRecvError::Disconnected) => return Err(RecvError),
                 Err(TryRecvError::Empty) => thread::yield_now(),
             }
         }
+        self.looks.missed();
         self.sleep(rt)
     }
 

@@ -1,6 +1,6 @@
 //! How often a thread looks for what it waits for before it sleeps.
 ghost use Rattle.std.specs.Prelude.{◌≡◌};
-ghost use Rattle.workers.specs.Looking.{session_looks, worker_looks};
+ghost use Rattle.workers.specs.Looking.{session_looks, worker_looks, misses_after};
 
 use std::alloc::{AllocError, Global};
 use std::sync::Arc;
@@ -13,12 +13,33 @@ const SESSION_LOOKS: u32 = 100;
 /// How often a worker looks for work while many sessions wait, so that none of them has to wake it.
 const WORKER_LOOKS: u32 = 200;
 
+/// How often a worker looks while few sessions wait. These looks take some 0.3 ms, within which a
+/// client that was just answered mostly sends its next batch.
+const LONG_LOOKS: u32 = 1_000;
+
+/// So many processors leave one for each thread on a batch's way: client, session and workers.
+const PROCESSORS_ENOUGH: u64 = 4;
+
+/// After so many waits in a row that ended in sleep, a worker stops looking.
+const MISSES_MOST: u32 = 4;
+
+/// A worker that has stopped looking tries it again after so many waits.
+const WAITS_BETWEEN: u32 = 16;
+
 /// How many sessions wait for their posts, and how many processors there are. Its clones
 /// share the count.
 #[derive(Drop)]
 pub struct Looks {
     waiting: Arc<AtomicU64, Global>,
     processors: u64,
+}
+
+/// How often one worker looks, which depends on how its last waits ended. If `looks` is `None`, it
+/// waits as its channel does.
+#[derive(Drop)]
+pub(crate) struct WorkerLooks {
+    looks: Option<Looks>,
+    misses: u32,
 }
 
 /// A session that counts as waiting until this is dropped.
@@ -55,12 +76,48 @@ impl Looks {
 
     /// How often a session looks for its post before it sleeps.
     pub fn of_session(&self) -> u32 {
-        session_looks(self.waiting.load(Ordering::SeqCst), self.processors)
+        session_looks(self.waiting(), self.processors)
     }
 
-    /// How often a worker looks for work before it sleeps. Other threads run between its looks.
-    pub fn of_worker(&self) -> u32 {
-        worker_looks(self.waiting.load(Ordering::SeqCst), self.processors)
+    // How many sessions wait for their posts.
+    fn waiting(&self) -> u64 {
+        self.waiting.load(Ordering::SeqCst)
+    }
+}
+
+impl WorkerLooks {
+    /// A worker that never looks.
+    pub(crate) fn none() -> Self {
+        WorkerLooks {
+            looks: None,
+            misses: 0,
+        }
+    }
+
+    /// The looks of a worker that hasn't waited yet.
+    pub(crate) fn by(looks: Looks) -> Self {
+        WorkerLooks {
+            looks: Some(looks),
+            misses: 0,
+        }
+    }
+
+    /// How often the worker looks for work before it sleeps. Other threads run between its looks.
+    pub(crate) fn count(&self) -> u32 {
+        match &self.looks {
+            Some(looks) => worker_looks(looks.waiting(), looks.processors, self.misses),
+            None => 0,
+        }
+    }
+
+    /// A look found work.
+    pub(crate) fn found(&mut self) {
+        self.misses = 0;
+    }
+
+    /// No look found work, so the worker sleeps.
+    pub(crate) fn missed(&mut self) {
+        self.misses = misses_after(self.misses);
     }
 }
 
@@ -91,13 +148,26 @@ fn session_looks(waiting: u64, processors: u64) -> u32
     }
 }
 
-// How often a worker looks while this number of sessions waits.
-fn worker_looks(waiting: u64, processors: u64) -> u32
-    ensures { result ≡ worker_looks waiting processors }
+// How often a worker looks while this number of sessions waits, after so many misses.
+fn worker_looks(waiting: u64, processors: u64, misses: u32) -> u32
+    ensures { result ≡ worker_looks waiting processors misses }
 {
     if processors < waiting.saturating_sub(processors) {
         WORKER_LOOKS
+    } else if PROCESSORS_ENOUGH <= processors && misses < MISSES_MOST {
+        LONG_LOOKS
     } else {
         0
+    }
+}
+
+// The misses that count after one more. The last miss before a new try counts as few.
+fn misses_after(misses: u32) -> u32
+    ensures { result ≡ misses_after misses }
+{
+    if misses < MISSES_MOST + WAITS_BETWEEN {
+        misses + 1
+    } else {
+        MISSES_MOST - 1
     }
 }

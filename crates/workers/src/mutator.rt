@@ -88,7 +88,7 @@ impl<M: Method, G: Gate + Drop> Model for Mutator<M, G> {
 
 impl<M: Method, G: Gate + Drop> Mutator<M, G> {
     /// A mutator of a world whose start has ended, at this tick. A round is due after every `every`
-    /// ticks, and the bell is rung once it is open.
+    /// ticks, and the bell is rung once it is open. It takes each end that it owns as a parameter.
     pub fn new(
         gate: G,
         alloc: Global,

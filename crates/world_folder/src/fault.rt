@@ -7,7 +7,7 @@ ghost use Rattle.world_folder.specs.Texts.{damaged_names, reason_text};
 
 use crate::lost::{Lost, lost_of};
 use crate::world_file::{IMAGE_A, IMAGE_B, LOG_A, LOG_B};
-use action_log::read_log;
+use action_log::judge_log;
 use disk_model::FourFiles;
 use image_files::read_image;
 use recovery::{Recovered, recover};
@@ -152,23 +152,19 @@ fn fault_of(alloc: Global, files: &FourFiles<Vec<u8>>, refusal: Refusal) -> Faul
             a: is_bad_image(alloc, &files.image_a),
             b: is_bad_image(alloc, &files.image_b),
         }),
-        Refusal::BadLog => fault_of_log(alloc, files),
+        Refusal::BadLog => fault_of_log(files),
         _ => Fault::NoMemory,
     }
 }
 
 // Which segments are damaged, or that none is.
-fn fault_of_log(alloc: Global, files: &FourFiles<Vec<u8>>) -> Fault
+fn fault_of_log(files: &FourFiles<Vec<u8>>) -> Fault
     requires { Recovers files.now.image_a.items files.now.image_b.items
         files.now.log_a.items files.now.log_b.items (Err Refusal.BadLog) }
     ensures { Explains files.now result }
 {
-    let (Ok(a), Ok(b)) = (
-        is_bad_segment(alloc, &files.log_a),
-        is_bad_segment(alloc, &files.log_b),
-    ) else {
-        return Fault::NoMemory;
-    };
+    let a = is_bad_segment(&files.log_a);
+    let b = is_bad_segment(&files.log_b);
     if a || b {
         Fault::Segments(Damaged { a, b })
     } else {
@@ -183,15 +179,9 @@ fn is_bad_image(alloc: Global, bytes: &[u8]) -> bool
     matches!(read_image(alloc, bytes), Err(Refusal::BadImage))
 }
 
-// True if a segment is open and of neither format. It is refused if there is no memory to read it.
-fn is_bad_segment(alloc: Global, bytes: &[u8]) -> Result<bool, Refusal>
-    ensures reported { IfOk result (λ is_bad. IsTrue is_bad
-        ↔ IsSegment bytes.now MalformedSegment) }
-    ensures memory { IfErr result (λ refusal. refusal ≡ Refusal.NoMemory) }
+// True if a segment is open and of neither format.
+fn is_bad_segment(bytes: &[u8]) -> bool
+    ensures { IsTrue result ↔ IsSegment bytes.now MalformedSegment }
 {
-    match read_log(alloc, bytes) {
-        Ok(_) => Ok(false),
-        Err(Refusal::BadLog) => Ok(true),
-        Err(refusal) => Err(refusal),
-    }
+    judge_log(bytes).is_err()
 }

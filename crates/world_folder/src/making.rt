@@ -165,7 +165,7 @@ fn first_open(alloc: Global, bytes: &FourFiles<Vec<u8>>) -> &'static str
     if !is_closed_image(alloc, &bytes.image_b) {
         return IMAGE_B;
     }
-    if !is_closed_segment(alloc, &bytes.log_a) {
+    if !is_closed_segment(&bytes.log_a) {
         return LOG_A;
     }
     LOG_B

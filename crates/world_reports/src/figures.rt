@@ -43,12 +43,8 @@ pub fn figures_of(alloc: Global, files: &FourFiles<Vec<u8>>) -> Result<Figures, 
     ensures figures { IfOk result (AreFigures files.now) }
     ensures fault { IfErr result (Explains files.now) }
 {
-    let (Ok(log_a), Ok(log_b)) = (
-        report_log(alloc, &files.log_a),
-        report_log(alloc, &files.log_b),
-    ) else {
-        return Err(Fault::NoMemory);
-    };
+    let log_a = report_log(&files.log_a);
+    let log_b = report_log(&files.log_b);
     match stands_in(alloc, files) {
         Ok(found) => Ok(Figures {
             tick: found.tick,

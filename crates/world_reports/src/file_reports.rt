@@ -1,12 +1,11 @@
 ghost use Rattle.std.specs.Prelude.{◌≡◌, Err, IfOk, IfErr, Some};
 ghost use Rattle.image_files.specs.Image.{image_of};
 ghost use Rattle.image_files.specs.Reading.{IsOpenImage};
-ghost use Rattle.action_log.specs.Segment.{HasTicks};
 ghost use Rattle.world_reports.specs.FileReports.{IsImageReport, IsLogReport, format_number};
 ghost use Rattle.world_reports.specs.Texts.{image_reported_text, log_reported_text};
 
 use crate::counted::Counted;
-use action_log::{LogState, count_groups, read_log};
+use action_log::{HeldLog, count_groups, judge_log};
 use file_format::{Format, format_of};
 use image_files::{ImageState, read_image};
 use std::alloc::Global;
@@ -58,25 +57,22 @@ pub fn report_image(alloc: Global, bytes: &[u8]) -> Result<ImageReport, Refusal>
     }
 }
 
-/// Reports on a log file. It takes memory as `read_log` does.
-pub fn report_log(alloc: Global, bytes: &[u8]) -> Result<LogReport, Refusal>
-    ensures reported { IfOk result (IsLogReport bytes.now) }
-    ensures refused { IfErr result (λ refusal. refusal ≡ Refusal.NoMemory) }
-    ensures memory { result ≡ Err Refusal.NoMemory → HasTicks bytes.now }
+/// Reports on a log file. It takes no memory.
+pub fn report_log(bytes: &[u8]) -> LogReport
+    ensures { IsLogReport bytes.now result }
 {
-    match read_log(alloc, bytes) {
-        Ok(LogState::Closed) => Ok(LogReport::Closed),
-        Ok(LogState::Open { base, ticks }) => {
+    match judge_log(bytes) {
+        Ok(HeldLog::Closed) => LogReport::Closed,
+        Ok(HeldLog::Open { base, ticks }) => {
             let format = format_of(bytes).unwrap();
-            Ok(LogReport::Open {
+            LogReport::Open {
                 format,
                 base,
                 groups: count_groups(bytes).unwrap(),
-                ticks: ticks.len(),
-            })
+                ticks: ticks.count,
+            }
         }
-        Err(Refusal::BadLog) => Ok(LogReport::Damaged),
-        Err(refusal) => Err(refusal),
+        Err(_) => LogReport::Damaged,
     }
 }
 

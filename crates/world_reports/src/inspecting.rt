@@ -137,7 +137,7 @@ fn reported_of(alloc: Global, file: WorldFile, bytes: &[u8]) -> Result<FileRepor
 {
     match file {
         WorldFile::ImageA | WorldFile::ImageB => Ok(FileReport::Image(report_image(alloc, bytes)?)),
-        WorldFile::LogA | WorldFile::LogB => Ok(FileReport::Log(report_log(alloc, bytes)?)),
+        WorldFile::LogA | WorldFile::LogB => Ok(FileReport::Log(report_log(bytes))),
     }
 }
 

@@ -3,12 +3,12 @@ ghost use Rattle.image_files.specs.Image.{Closed, image_of};
 ghost use Rattle.action_log.specs.Segment.{ClosedSegment, IsSegment};
 ghost use Rattle.world_start.specs.Fresh.{AreClosed};
 
-use action_log::{LogState, read_log, segments_read_once};
+use action_log::{HeldLog, judge_log, segments_read_once};
 use disk_model::FourFiles;
 use image_files::{ImageState, read_image};
 use std::alloc::Global;
 
-/// True if none of four files holds an image or a segment. An open file isn't closed, even if
+/// True if none of four files holds an image or a segment. An open image isn't closed, even if
 /// memory runs out when it is read.
 pub fn are_closed(alloc: Global, bytes: &FourFiles<Vec<u8>>) -> bool
     ensures { IsTrue result ↔ AreClosed bytes.now.image_a.items bytes.now.image_b.items
@@ -16,8 +16,8 @@ pub fn are_closed(alloc: Global, bytes: &FourFiles<Vec<u8>>) -> bool
 {
     is_closed_image(alloc, &bytes.image_a)
         && is_closed_image(alloc, &bytes.image_b)
-        && is_closed_segment(alloc, &bytes.log_a)
-        && is_closed_segment(alloc, &bytes.log_b)
+        && is_closed_segment(&bytes.log_a)
+        && is_closed_segment(&bytes.log_b)
 }
 
 /// True if a file holds no image.
@@ -28,9 +28,9 @@ pub fn is_closed_image(alloc: Global, bytes: &[u8]) -> bool
 }
 
 /// True if a file holds no segment.
-pub fn is_closed_segment(alloc: Global, bytes: &[u8]) -> bool
+pub fn is_closed_segment(bytes: &[u8]) -> bool
     ensures { IsTrue result ↔ IsSegment bytes.now ClosedSegment }
 {
     segments_read_once();
-    matches!(read_log(alloc, bytes), Ok(LogState::Closed))
+    matches!(judge_log(bytes), Ok(HeldLog::Closed))
 }

@@ -16,13 +16,13 @@ not_both b is_false is_true = (let h : true ≡ false = sym is_true ∙ is_false
 pub returns-then-b : goal.returns-then-b
 returns-then-b c = (
   c.requires,
-  reported_of c.in-Ok-Ok.a c.deref.result.now c.args.files.now.log_a.items c.deref.ensures.value c.in-Ok-Ok.ensures.reported,
-  reported_of c.in-Ok-Ok.b c.deref-2.result.now c.args.files.now.log_b.items c.deref-2.ensures.value c.in-Ok-Ok.ensures'.reported,
-  one_of c.in-Ok-Ok.a c.in-Ok-Ok.b c.if-b.either,
+  reported_of c.is_bad_segment-a.result c.deref.result.now c.args.files.now.log_a.items c.deref.ensures.value c.is_bad_segment-a.ensures,
+  reported_of c.is_bad_segment-b.result c.deref-2.result.now c.args.files.now.log_b.items c.deref-2.ensures.value c.is_bad_segment-b.ensures,
+  one_of c.is_bad_segment-a.result c.is_bad_segment-b.result c.if-b.either,
 )
 
 pub returns-else-b : goal.returns-else-b
 returns-else-b c =
-    let a = reported_of c.in-Ok-Ok.a c.deref.result.now c.args.files.now.log_a.items c.deref.ensures.value c.in-Ok-Ok.ensures.reported in
-    let b = reported_of c.in-Ok-Ok.b c.deref-2.result.now c.args.files.now.log_b.items c.deref-2.ensures.value c.in-Ok-Ok.ensures'.reported in
-    (c.requires, λ bad. not_both c.in-Ok-Ok.a c.if-b.false.0 (a.1 bad), λ bad. not_both c.in-Ok-Ok.b c.if-b.false.1 (b.1 bad))
+    let a = reported_of c.is_bad_segment-a.result c.deref.result.now c.args.files.now.log_a.items c.deref.ensures.value c.is_bad_segment-a.ensures in
+    let b = reported_of c.is_bad_segment-b.result c.deref-2.result.now c.args.files.now.log_b.items c.deref-2.ensures.value c.is_bad_segment-b.ensures in
+    (c.requires, λ bad. not_both c.is_bad_segment-a.result c.if-b.false.0 (a.1 bad), λ bad. not_both c.is_bad_segment-b.result c.if-b.false.1 (b.1 bad))

@@ -9,9 +9,9 @@ returns-in-Ok-clause-figures c = record {
   tick = refl;
   image = refl;
   slot = refl;
-  log_a = c.in-Ok-Ok.log_a;
-  log_b = c.in-Ok-Ok.log_b;
-  reported_a = subst (λ (l : List ℕ). IsLogReport l c.in-Ok-Ok.log_a) c.deref.ensures.value c.in-Ok-Ok.ensures.reported;
-  reported_b = subst (λ (l : List ℕ). IsLogReport l c.in-Ok-Ok.log_b) c.deref-2.ensures.value c.in-Ok-Ok.ensures'.reported;
+  log_a = c.report_log-log_a.result;
+  log_b = c.report_log-log_b.result;
+  reported_a = subst (λ (l : List ℕ). IsLogReport l c.report_log-log_a.result) c.deref.ensures.value c.report_log-log_a.ensures;
+  reported_b = subst (λ (l : List ℕ). IsLogReport l c.report_log-log_b.result) c.deref-2.ensures.value c.report_log-log_b.ensures;
   segment = c.current_segment.ensures;
 }
