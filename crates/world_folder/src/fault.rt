@@ -183,5 +183,8 @@ fn is_bad_image(alloc: Global, bytes: &[u8]) -> bool
 fn is_bad_segment(bytes: &[u8]) -> bool
     ensures { IsTrue result ↔ IsSegment bytes.now MalformedSegment }
 {
-    judge_log(bytes).is_err()
+    match judge_log(bytes) {
+        Ok(_) => false,
+        Err(_) => true,
+    }
 }
