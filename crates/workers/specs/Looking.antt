@@ -1,16 +1,17 @@
 -- How often a thread looks for what it waits for before it sleeps.
-use Rattle.std.specs.Prelude.{ℕ, ◌+◌, ◌-◌, ◌&&◌, nat_lt, not, if◌then◌else◌}
+use Rattle.std.specs.Prelude.{ℕ, ◌+◌, ◌-◌, ◌/◌, ◌&&◌, nat_lt, not, if◌then◌else◌}
 
 -- a session looks for its post while fewer sessions wait than there are processors
 abbrev pub session_looks : (waiting processors : ℕ) → ℕ
 session_looks waiting processors = if nat_lt waiting processors then 100 else 0
 
--- a worker looks for work while more than twice as many sessions wait as there are processors;
--- while fewer wait it looks longer, on four processors or more, until four waits in a row missed
+-- a worker looks for work while more than twice as many sessions wait as there are processors; on
+-- four processors or more it looks longer while at most half as many wait, until four waits missed
 abbrev pub worker_looks : (waiting processors misses : ℕ) → ℕ
 worker_looks waiting processors misses =
     if nat_lt processors (waiting - processors) then 200 else
-    if not (nat_lt processors 4) && nat_lt misses 4 then 1000 else
+    if not (nat_lt processors 4) && not (nat_lt (processors / 2) waiting) && nat_lt misses 4
+    then 1000 else
     0
 
 -- the misses that count after one more: sixteen waits after the fourth, a worker looks again

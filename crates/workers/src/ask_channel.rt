@@ -135,6 +135,9 @@ impl AskReceiver {
                 Err(TryRecvError::Disconnected) => return None,
                 Err(TryRecvError::Empty) => thread::yield_now(),
             }
+            if self.looks.count() == 0 {
+                break;
+            }
         }
         self.looks.missed();
         self.sleep(rt).ok()

@@ -156,6 +156,9 @@ impl ItemReceiver {
                 Err(TryRecvError::Disconnected) => return Err(RecvError),
                 Err(TryRecvError::Empty) => thread::yield_now(),
             }
+            if self.looks.count() == 0 {
+                break;
+            }
         }
         self.looks.missed();
         self.sleep(rt)

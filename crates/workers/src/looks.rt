@@ -13,12 +13,13 @@ const SESSION_LOOKS: u32 = 100;
 /// How often a worker looks for work while many sessions wait, so that none of them has to wake it.
 const WORKER_LOOKS: u32 = 200;
 
-/// How often a worker looks while few sessions wait. These looks take some 0.3 ms, within which a
-/// client that was just answered mostly sends its next batch.
+/// How often a worker looks while few sessions wait: at most half as many as there are processors.
+/// These looks take some 0.3 ms, within which a client that was just answered mostly sends its next
+/// batch.
 const LONG_LOOKS: u32 = 1_000;
 
 /// So many processors leave one for each thread on a batch's way: client, session and workers.
-const PROCESSORS_ENOUGH: u64 = 4;
+const PROCESSORS_LEAST: u64 = 4;
 
 /// After so many waits in a row that ended in sleep, a worker stops looking.
 const MISSES_MOST: u32 = 4;
@@ -103,6 +104,7 @@ impl WorkerLooks {
     }
 
     /// How often the worker looks for work before it sleeps. Other threads run between its looks.
+    /// It sleeps at once if this has become 0.
     pub(crate) fn count(&self) -> u32 {
         match &self.looks {
             Some(looks) => worker_looks(looks.waiting(), looks.processors, self.misses),
@@ -154,7 +156,7 @@ fn worker_looks(waiting: u64, processors: u64, misses: u32) -> u32
 {
     if processors < waiting.saturating_sub(processors) {
         WORKER_LOOKS
-    } else if PROCESSORS_ENOUGH <= processors && misses < MISSES_MOST {
+    } else if PROCESSORS_LEAST <= processors && waiting <= processors / 2 && misses < MISSES_MOST {
         LONG_LOOKS
     } else {
         0
