@@ -6,6 +6,7 @@
 #![tactic(auto)]
 
 mod opening;
+mod pause;
 mod system_file;
 
 pub use system_file::FileDisk;

@@ -7,6 +7,7 @@ ghost use Rattle.disk_model.specs.Disk.{last_count, min-last_count, IsDeviceFaul
 ghost use Rattle.file_disk.specs.KnownFile.{after_failure, CallsFile};
 
 use crate::opening::{above_streams, drop_copies, if_writable};
+use crate::pause::pause;
 use disk_model::Disk;
 use std::fs::{File, Metadata};
 use std::io::{self, ErrorKind};
@@ -14,15 +15,21 @@ use std::marker::Model;
 use std::os::unix::fs::FileExt;
 use world_actions::Refusal;
 
+/// So many written bytes make a paced file sync and pause.
+const PACE_BYTES: u64 = 65_536;
+
 /// A file of the operating system. Contracts see a length that it has at least, and the number
 /// of its calls that failed. They see nothing of its content. Each read and each write is one
-/// call of the system.
+/// call of the system, except in a paced file.
 #[derive(Drop)]
 pub struct FileDisk {
     file: File,
     known_length: u64,
     faults: u64,
     failure: Option<io::Error>,
+    paced: bool,
+    /// How many bytes were written since the last sync.
+    unsynced: u64,
 }
 
 impl Model for FileDisk {
@@ -98,6 +105,8 @@ impl FileDisk {
                 known_length: metadata.len(),
                 faults: 0,
                 failure: None,
+                paced: false,
+                unsynced: 0,
             }),
             (Err(error), _, _) => Err(error),
             (_, Err(error), _) => Err(error),
@@ -136,17 +145,48 @@ impl FileDisk {
         Ok(())
     }
 
-    // Takes the system's answer to a write of `asked` bytes up to the place `end`.
-    fn wrote(&mut self, answer: io::Result<usize>, asked: usize, end: u64) -> Result<(), Refusal>
-        ensures whole { IsOk result ↔ (answer ≡ Ok asked) }
+    // Takes the system's answers to a write of `asked` bytes up to the place `end`, and to the sync
+    // that followed it.
+    fn wrote(
+        &mut self,
+        answer: io::Result<usize>,
+        synced: io::Result<()>,
+        asked: usize,
+        end: u64,
+    ) -> Result<(), Refusal>
+        ensures whole { IsOk result ↔ ((answer ≡ Ok asked) × IsOk synced) }
         ensures ok { OnOk result (self.new
             ≡ record self.old { known_length = max self.old.known_length end }) }
         ensures err { OnErr result (self.new ≡ after_failure self.old) }
         ensures device { IsDeviceFault result }
     {
         self.moved(answer, asked, ErrorKind::WriteZero)?;
+        self.answered(synced)?;
         self.known_length = self.known_length.max(end);
         Ok(())
+    }
+
+    /// Paces the writes from now on: after each 64 KiB the file is synced, and the thread pauses
+    /// for 2 ms. So a device that other files share is never busy with this one for long.
+    pub fn pace(&mut self)
+        ensures { self.new ≡ self.old }
+    {
+        self.paced = true;
+    }
+
+    // Counts the bytes of a write. If the file is paced and many are unsynced, it is synced, with a
+    // pause. Returns the system's answer to that sync.
+    fn keep_pace(&mut self, written: usize) -> io::Result<()>
+        ensures { self.new ≡ self.old }
+    {
+        self.unsynced = self.unsynced.saturating_add(written as u64);
+        if !self.paced || self.unsynced < PACE_BYTES {
+            return Ok(());
+        }
+        let synced = self.file.sync_data();
+        self.unsynced = 0;
+        pause();
+        synced
     }
 
     // Counts a failure, and keeps the reason of the last one.
@@ -211,7 +251,8 @@ impl Disk for FileDisk {
         match at.checked_add(bytes.len() as u64) {
             Some(end) if at <= self.known_length => {
                 let answer = self.file.write_at(bytes, at);
-                self.wrote(answer, bytes.len(), end)
+                let synced = self.keep_pace(bytes.len());
+                self.wrote(answer, synced, bytes.len(), end)
             }
             _ => self.failed(io::Error::from(ErrorKind::InvalidInput)),
         }
@@ -219,6 +260,7 @@ impl Disk for FileDisk {
 
     fn sync(&mut self) -> Result<(), Refusal> {
         let answer = self.file.sync_data();
+        self.unsynced = 0;
         self.answered(answer)
     }
 }

@@ -35,6 +35,11 @@ pub record Started (D : Type 0) : Type 0 where
   pub checkpointer : Imaging D
   pub log_writer : Logging D
 
+-- these three workers
+abbrev pub workers_of : {D : Type 0} → Playing → Imaging D → Logging D → Started D
+workers_of mutator checkpointer log_writer =
+    record { mutator = mutator; checkpointer = checkpointer; log_writer = log_writer }
+
 -- The mutator and the checkpointer share a pair of seats, and the log writer and the mutator share
 -- a channel. The log writer and the checkpointer share the word of open images. The mutator and the
 -- log writer share the word of a log that is down.

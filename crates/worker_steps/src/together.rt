@@ -5,7 +5,7 @@ ghost use Rattle.workers.specs.Channel.{AreOneChannel};
 ghost use Rattle.workers.specs.Imaging.{KeepsBack, IsAtRest as IsResting};
 ghost use Rattle.workers.specs.Logging.{IsAtRest};
 ghost use Rattle.worker_steps.specs.Stopped.{AreSound, StaysSound, acknowledged_by};
-ghost use Rattle.worker_steps.specs.Begun.{Started, IsWhole, IsBegun};
+ghost use Rattle.worker_steps.specs.Begun.{Started, workers_of, IsWhole, IsBegun};
 ghost use Rattle.worker_steps.specs.Kept.{KeepsFront, KeepsLog};
 ghost use Rattle.worker_steps.specs.Running.{Makes, Meets};
 
@@ -53,11 +53,7 @@ impl<M: Method, D: Disk + Drop, A: Gate + Drop, B: Gate + Drop, C: Gate + Drop> 
             opened.log opened.ended }
         ensures begun { IfOk result (λ made.
             IsBegun opened.front opened.back opened.images opened.log opened.ended every
-            (record {
-              mutator = made.mutator;
-              checkpointer = made.checkpointer;
-              log_writer = made.log_writer;
-            })) }
+            (workers_of made.mutator made.checkpointer made.log_writer)) }
         ensures asks { IfOk result (λ made. made.mutator.asks ≡ asks) }
         ensures images_rest { IfOk result (λ made.
             IsResting made.checkpointer.images.keeper made.checkpointer.back) }
@@ -106,17 +102,9 @@ impl<M: Method, D: Disk + Drop, A: Gate + Drop, B: Gate + Drop, C: Gate + Drop> 
     pub fn step<R: Wait>(&mut self, rt: &R, next: Next)
         ensures made { (mid : Started D)
             × Makes A.answers B.answers C.answers D.called D.faults next
-            (record {
-              mutator = self.old.mutator;
-              checkpointer = self.old.checkpointer;
-              log_writer = self.old.log_writer;
-            }) mid
-            × Meets
-            mid (record {
-              mutator = self.new.mutator;
-              checkpointer = self.new.checkpointer;
-              log_writer = self.new.log_writer;
-            }) }
+            (workers_of self.old.mutator self.old.checkpointer self.old.log_writer) mid
+            × Meets mid
+            (workers_of self.new.mutator self.new.checkpointer self.new.log_writer) }
         ensures sound { IsTrue D.honest
             → AreSound D.content D.may_leave self.new.mutator
             self.new.checkpointer self.new.log_writer }
@@ -152,16 +140,8 @@ impl<M: Method, D: Disk + Drop, A: Gate + Drop, B: Gate + Drop, C: Gate + Drop> 
     // One worker makes the step, and the others stay as they are.
     fn make_step<R: Wait>(&mut self, rt: &R, next: Next)
         ensures made { Makes A.answers B.answers C.answers D.called D.faults next
-            (record {
-              mutator = self.old.mutator;
-              checkpointer = self.old.checkpointer;
-              log_writer = self.old.log_writer;
-            })
-            (record {
-              mutator = self.new.mutator;
-              checkpointer = self.new.checkpointer;
-              log_writer = self.new.log_writer;
-            }) }
+            (workers_of self.old.mutator self.old.checkpointer self.old.log_writer)
+            (workers_of self.new.mutator self.new.checkpointer self.new.log_writer) }
         ensures mutator { KeepsFront self.old.mutator self.new.mutator }
         ensures checkpointer { KeepsBack self.old.checkpointer self.new.checkpointer }
         ensures log_writer { KeepsLog self.old.log_writer self.new.log_writer }
@@ -186,16 +166,9 @@ impl<M: Method, D: Disk + Drop, A: Gate + Drop, B: Gate + Drop, C: Gate + Drop> 
         ensures posted { self.new.log_writer.answers.posted
             ≤ acknowledged_by self.new.checkpointer self.new.log_writer }
         ensures in_turn { PlaysInTurn self.new.mutator.asks.taken self.new.mutator.to.items }
-        ensures meets { Meets (record {
-          mutator = self.old.mutator;
-          checkpointer = self.old.checkpointer;
-          log_writer = self.old.log_writer;
-        })
-            (record {
-              mutator = self.new.mutator;
-              checkpointer = self.new.checkpointer;
-              log_writer = self.new.log_writer;
-            }) }
+        ensures meets {
+            Meets (workers_of self.old.mutator self.old.checkpointer self.old.log_writer)
+            (workers_of self.new.mutator self.new.checkpointer self.new.log_writer) }
         ensures mutator { KeepsFront self.old.mutator self.new.mutator }
         ensures checkpointer { KeepsBack self.old.checkpointer self.new.checkpointer }
         ensures log_writer { KeepsLog self.old.log_writer self.new.log_writer }

@@ -253,6 +253,23 @@ Acknowledges (Some receipt) old new =
     (new.acked ≡ max old.acked receipt) × Posts receipt old.answers new.answers
     × AreLater receipt new.answers.waiting
 
+-- only the log, its records, what is known of the images, and the answers changed
+abbrev pub WritesOnly : {D : Type 0} → (old new : Logging D) → Type 0
+WritesOnly old new = new ≡ record old {
+  covers = new.covers;
+  reported_down = new.reported_down;
+  log = new.log;
+  ring = new.ring;
+  answers = new.answers;
+  acked = new.acked;
+  down = new.down;
+}
+
+-- only the popped items, the answers, and whether there are more items changed
+abbrev pub PopsOnly : {D : Type 0} → (old new : Logging D) → Type 0
+PopsOnly old new =
+    new ≡ record old { from = new.from; answers = new.answers; over = new.over }
+
 -- With nothing left to do, an answer that still waits has no receipt. The log then goes down: the
 -- log writer reports it, and refuses each waiting answer. If none waits, nothing changes.
 abbrev pub Settles : {D : Type 0} → Logging D → Logging D → Type 0
@@ -270,7 +287,7 @@ pub record Loses {D : Type 0} (old : Logging D) (item : Item) (new : Logging D) 
   pub end : new.from.end ≡ old.from.end
   pub answers : new.answers
       ≡ record old.answers { answered = old.answers.answered + length (answers_of item) }
-  pub same : new ≡ record old { from = new.from; answers = new.answers; over = new.over }
+  pub same : PopsOnly old new
 
 -- this item was popped and is kept, or lost if the log is down
 abbrev pub Pops : {D : Type 0} → Logging D → Item → Logging D → Type 0

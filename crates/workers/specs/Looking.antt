@@ -14,6 +14,7 @@ worker_looks waiting processors misses =
     then 1000 else
     0
 
--- the misses that count after one more: sixteen waits after the fourth, a worker looks again
+-- the misses that count after one more: after the fourth a worker leaves out sixteen waits, and
+-- looks again
 abbrev pub misses_after : (misses : ℕ) → ℕ
-misses_after misses = if nat_lt misses 20 then misses + 1 else 3
+misses_after misses = if nat_lt misses 19 then misses + 1 else 3

@@ -22,6 +22,7 @@ ghost use Rattle.workers.specs.Publishing.{reported as with_reported};
 ghost use Rattle.workers.specs.Logging.{is_stop, has_stop, is_over, writer_at, Took, Loses, Pops};
 ghost use Rattle.workers.specs.Logging.{refused, Settles, receipt_of, Acknowledges, IsReady};
 ghost use Rattle.workers.specs.Logging.{IsAtRest, LogReportsFaults, FallsBy, IsPosted, IsLogging};
+ghost use Rattle.workers.specs.Logging.{WritesOnly, PopsOnly};
 
 use crate::gate::{Gate, Place, passes};
 use crate::item_channel::ItemReceiver;
@@ -261,16 +262,7 @@ impl<D: Disk + Drop, G: Gate + Drop> LogWriter<D, G> {
     /// it refuses each answer that waits.
     pub fn step<R: Wait>(&mut self, rt: &R)
         requires up { self.old.down ≡ false }
-        ensures same { self.new
-            ≡ record self.old {
-              covers = self.new.covers;
-              reported_down = self.new.reported_down;
-              log = self.new.log;
-              ring = self.new.ring;
-              answers = self.new.answers;
-              acked = self.new.acked;
-              down = self.new.down;
-            } }
+        ensures same { WritesOnly self.old self.new }
         ensures loads { LoadsOn self.old.covers self.new.covers }
         ensures word { self.new.reported_down.pair ≡ self.old.reported_down.pair }
         ensures covers { self.new.down ≡ false
@@ -322,16 +314,7 @@ impl<D: Disk + Drop, G: Gate + Drop> LogWriter<D, G> {
     // no receipt, so it is refused too.
     fn write_all<R: Wait>(&mut self, rt: &R)
         requires up { self.old.down ≡ false }
-        ensures same { self.new
-            ≡ record self.old {
-              covers = self.new.covers;
-              reported_down = self.new.reported_down;
-              log = self.new.log;
-              ring = self.new.ring;
-              answers = self.new.answers;
-              acked = self.new.acked;
-              down = self.new.down;
-            } }
+        ensures same { WritesOnly self.old self.new }
         ensures loads { LoadsOn self.old.covers self.new.covers }
         ensures word { self.new.reported_down.pair ≡ self.old.reported_down.pair }
         ensures acked { self.old.acked ≤ self.new.acked }
@@ -410,12 +393,7 @@ impl<D: Disk + Drop, G: Gate + Drop> LogWriter<D, G> {
             × (self.new.over ≡ is_over more) }
         ensures end { self.new.from.end ≡ self.old.from.end }
         ensures none { self.new.answers.waiting ≡ [] }
-        ensures same { self.new
-            ≡ record self.old {
-              from = self.new.from;
-              answers = self.new.answers;
-              over = self.new.over;
-            } }
+        ensures same { PopsOnly self.old self.new }
     {
         match self.from.pop(rt) {
             Ok(item) => self.over = lose(rt, &mut self.answers, item),
@@ -436,12 +414,7 @@ impl<D: Disk + Drop, G: Gate + Drop> LogWriter<D, G> {
             × (self.new.opening ≡ self.old.opening) }
         ensures loads { LoadsOn self.old.covers self.new.covers }
         ensures word { self.new.reported_down.pair ≡ self.old.reported_down.pair }
-        ensures down { self.old.down ≡ true
-            → self.new ≡ record self.old {
-              from = self.new.from;
-              answers = self.new.answers;
-              over = self.new.over;
-            } }
+        ensures down { self.old.down ≡ true → PopsOnly self.old self.new }
         ensures faults { LogReportsFaults D.faults self.old.log self.new.log }
         ensures asks { (self.new.log ≡ self.old.log) ⊎ MayGo G.answers Device }
         ensures cause { self.old.down ≡ false → self.new.down ≡ true

@@ -24,7 +24,7 @@ const PROCESSORS_LEAST: u64 = 4;
 /// After so many waits in a row that ended in sleep, a worker stops looking.
 const MISSES_MOST: u32 = 4;
 
-/// A worker that has stopped looking tries it again after so many waits.
+/// A worker that has stopped looking leaves out so many waits before it tries again.
 const WAITS_BETWEEN: u32 = 16;
 
 /// How many sessions wait for their posts, and how many processors there are. Its clones
@@ -88,7 +88,9 @@ impl Looks {
 
 impl WorkerLooks {
     /// A worker that never looks.
-    pub(crate) fn none() -> Self {
+    pub(crate) fn none() -> Self
+        ensures { result.misses ≡ 0 }
+    {
         WorkerLooks {
             looks: None,
             misses: 0,
@@ -96,7 +98,9 @@ impl WorkerLooks {
     }
 
     /// The looks of a worker that hasn't waited yet.
-    pub(crate) fn by(looks: Looks) -> Self {
+    pub(crate) fn by(looks: Looks) -> Self
+        ensures { result.misses ≡ 0 }
+    {
         WorkerLooks {
             looks: Some(looks),
             misses: 0,
@@ -113,12 +117,16 @@ impl WorkerLooks {
     }
 
     /// A look found work.
-    pub(crate) fn found(&mut self) {
+    pub(crate) fn found(&mut self)
+        ensures { self.new ≡ record self.old { misses = 0 } }
+    {
         self.misses = 0;
     }
 
     /// No look found work, so the worker sleeps.
-    pub(crate) fn missed(&mut self) {
+    pub(crate) fn missed(&mut self)
+        ensures { self.new ≡ record self.old { misses = misses_after self.old.misses } }
+    {
         self.misses = misses_after(self.misses);
     }
 }
@@ -167,7 +175,7 @@ fn worker_looks(waiting: u64, processors: u64, misses: u32) -> u32
 fn misses_after(misses: u32) -> u32
     ensures { result ≡ misses_after misses }
 {
-    if misses < MISSES_MOST + WAITS_BETWEEN {
+    if misses < MISSES_MOST + WAITS_BETWEEN - 1 {
         misses + 1
     } else {
         MISSES_MOST - 1

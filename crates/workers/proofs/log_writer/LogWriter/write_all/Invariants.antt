@@ -3,20 +3,12 @@ use Rattle.action_log.specs.Progress.{work_of}
 use Rattle.workers.specs.declared.gate.Place.TheVariants.{Device}
 use Rattle.workers.specs.Gates.{MayGo, MayStick}
 use Rattle.workers.specs.Covering.{LoadsOn}
-use Rattle.workers.specs.Logging.{LogReportsFaults, FallsBy}
+use Rattle.workers.specs.Logging.{LogReportsFaults, FallsBy, WritesOnly}
 use Rattle.workers.proofs.log_writer.LogWriter.write_all.Given as goal
 
 abbrev pub invariant-loop-self : goal.invariant-loop-self
 invariant-loop-self g l = record {
-  same : l.self ≡ record l.fn.self {
-    covers = l.self.covers;
-    reported_down = l.self.reported_down;
-    log = l.self.log;
-    ring = l.self.ring;
-    answers = l.self.answers;
-    acked = l.self.acked;
-    down = l.self.down;
-  };
+  same : WritesOnly l.fn.self l.self;
   loads : LoadsOn l.fn.self.covers l.self.covers;
   word : l.self.reported_down.pair ≡ l.fn.self.reported_down.pair;
   acked : l.fn.self.acked ≤ l.self.acked;
