@@ -18,7 +18,7 @@ use Rattle.workers.specs.Gates.{MayGo, MayStick}
 use Rattle.workers.specs.Mutating.{Playing, OpensNone, OwesSwitch, Plays, Pays, StopsPlay}
 use Rattle.workers.specs.Imaging.{Imaging, place_of, HasRound, FindsNone, FindsRound, GoesOn}
 use Rattle.workers.specs.Logging.{Logging, Pops, refused as refuses, Settles, receipt_of}
-use Rattle.workers.specs.Logging.{Acknowledges, LogReportsFaults}
+use Rattle.workers.specs.Logging.{Acknowledges, LogReportsFaults, WritesOnly}
 use Rattle.worker_steps.specs.Begun.{Started}
 use Rattle.worker_steps.specs.declared.next.Next.{Next}
 use Rattle.worker_steps.specs.declared.next.Next.TheVariants.{Play, Mark, Push, Stop, Pop}
@@ -49,15 +49,7 @@ MayPop old new = (new ≡ old) ⊎ ((item : Item) × Pops old item new)
 -- waits is refused.
 pub record LogSteps {D : Type 0} (go stuck : Type 0) (called : D → Call → Bool → D → Type 0)
     (faults : D → ℕ) (old new : Logging D) : Type 0 where
-  pub same : new ≡ record old {
-    covers = new.covers;
-    reported_down = new.reported_down;
-    log = new.log;
-    ring = new.ring;
-    answers = new.answers;
-    acked = new.acked;
-    down = new.down;
-  }
+  pub same : WritesOnly old new
   pub loads : LoadsOn old.covers new.covers
   pub word : new.reported_down.pair ≡ old.reported_down.pair
   pub covered : new.down ≡ false → (tick : ℕ) × (new.covers ≡ loaded old.covers tick)

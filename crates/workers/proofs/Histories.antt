@@ -35,18 +35,6 @@ leads_now opening items stopped front h up =
     subst (λ (l : List Item). Leads (begun opening) l (world_of front)) (ap (λ (l : List Item). items ++ l) all.0 ∙ append-nil items)
     (subst (Leads (begun opening) (items ++ h.late)) all.1 h.leads)
 
-pub history_more : (opening : List ℕ) (items : List Item) (stopped : Bool) (x : Item) (front front' : FrontState)
-    → History opening items stopped front → stopped ≡ false → after_item (world_of front) x (world_of front') → History opening (items ++ x ∷ []) stopped front'
-history_more opening items stopped x front front' h up after = record {
-  late = [];
-  is_late = inl refl;
-  reported = world_of front';
-  leads = subst (λ (l : List Item). Leads (begun opening) l (world_of front')) (sym (append-nil (items ++ x ∷ [])))
-      (leads_snoc (begun opening) items (world_of front) x (world_of front') (leads_now opening items stopped front h up) after);
-  rounds = refl;
-  all_reported = λ _. (refl, refl);
-}
-
 -- ---- cells that aren't touched
 
 -- another round is the last one

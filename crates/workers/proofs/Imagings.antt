@@ -1,7 +1,7 @@
 -- A step of the checkpointer's round keeps keeper, files and back in step.
 use Rattle.std.proofs.Common.{arith, ◌≡◌, ◌↔◌, ◌⊎◌, inl, inr, ℕ, suc, ◌+◌, ◌<◌, Bool, true, false, IsTrue, List, [], ◌∷◌, ◌++◌}
 use Rattle.std.proofs.Common.{length, drop, Option, Some, None, All, refl, sym, ap, subst, ◌∙◌, length-append}
-use Rattle.std.specs.Prelude.{⊤, get_or, MatchOption, if◌then◌else◌}
+use Rattle.std.specs.Prelude.{⊤, get_or, if◌then◌else◌}
 use Rattle.std.proofs.lemmas.List.Elements.{All-push}
 use Rattle.file_format.specs.declared.slot.Slot.{Slot}
 use Rattle.capture_core.specs.declared.taker.Taken.{Taken}
@@ -19,9 +19,9 @@ use Rattle.image_files.specs.Taken.{filled_words, word_of}
 use Rattle.shared_capture.specs.declared.view.Snapshot.{Snapshot}
 use Rattle.shared_capture.specs.States.{BackState, TookBack, SameDone, FoundRound}
 use Rattle.workers.specs.declared.checkpointer.round.ImageWriter.{ImageWriter}
-use Rattle.workers.specs.Imaging.{round_of, with_work, images_after, newest_after, HasRound, AreInStep, IsInWork, RoundRuns}
-use Rattle.workers.specs.Imaging.{IsDone, ImagesStand, FollowsRounds, WriterFits, ReportsFaults, Imaging, IsCheckpointer, Turned}
-use Rattle.workers.specs.Publishing.{IsNoneDue, ArePublished}
+use Rattle.workers.specs.Imaging.{round_of, with_work, images_after, newest_after, HasRound, AreInStep, RoundRuns}
+use Rattle.workers.specs.Imaging.{ImagesStand, FollowsRounds, WriterFits, ReportsFaults, Imaging, IsCheckpointer}
+use Rattle.workers.specs.Publishing.{ArePublished}
 
 -- ---- the words of a round
 
@@ -241,13 +241,6 @@ module _ {D : Type 0} (file : D → List ℕ) (leaves : D → List ℕ → Type 
 
 -- ---- a round from step to step
 
-pub runs_none : (keeper : Progress) (back : BackState) → HasRound keeper → AreInStep keeper back → RoundRuns back keeper back
-runs_none keeper back busy step = record {
-  same = (refl, refl, refl);
-  in_work = λ _. ((step.round busy).working, refl, refl);
-  done = λ is. absurd (busy is);
-}
-
 -- ---- failures
 
 not_down : (keeper : Progress) → 0 < left_of keeper → keeper.phase ≡ Down → ⊥
@@ -329,28 +322,6 @@ module _ {D : Type 0} (file : D → List ℕ) (leaves : D → List ℕ → Type 
         let kept : next.images.keeper.newest ≡ newest = follows.newest ∙ (ap (newest_after next.opening.keeper.newest) w.2 ∙ sym was) in
         omega (arith, newer, ap newest_tick kept, w.1);
   }
-
-pub turned_round : {D : Type 0} (stuck : Type 0) (old next : Imaging D) (tick : ℕ) (found : BackState) → SameDone old.back found
-    → FoundRound old.back tick found → RoundRuns found next.images.keeper next.back
-    → (next.over ≡ false → next.images.keeper.phase ≡ Idle) → (next.over ≡ true → HasRound next.images.keeper) → (next.over ≡ true → (next.images.keeper.phase ≡ Down) ⊎ stuck) → Turned stuck old next
-turned_round {D} stuck old next tick found same is runs rests busy cause = inr (tick, (is.0, runs.same.2 ∙ is.4, by_over next.over refl))
-  where
-    by_over : (over : Bool) → next.over ≡ over
-        → ((next.over ≡ false) × IsDone old.back tick next.back)
-        ⊎ ((next.over ≡ true) × IsInWork old.back tick next.back × (IsNoneDue old.images.keeper.newest tick ⊎ (HasRound next.images.keeper × ((next.images.keeper.phase ≡ Down) ⊎ stuck))))
-    by_over false on = (let d = runs.done (rests on) in inl (on, (d.0, d.1 ∙ is.2, d.2 ∙ same.1, d.3 ∙ ap (λ (l : List Snapshot). l ++ d.0 ∷ []) same.2, d.4)))
-    by_over true on = (let w = runs.in_work (busy on) in inr (on, (w.0, w.1 ∙ is.2, w.2 ∙ same.2), inr (busy on, cause on)))
-
--- the result of a turn that found a round
-pub answers_round : (given : Option ℕ) (over : Bool) (tick : ℕ) (keeper : Progress) (old found new : BackState) → SameDone old found → FoundRound old tick found → RoundRuns found keeper new
-    → (over ≡ false → keeper.phase ≡ Idle) → (over ≡ true → HasRound keeper) → ((over ≡ true) × (given ≡ None)) ⊎ ((over ≡ false) × (given ≡ Some tick))
-    → MatchOption given (new.done ≡ old.done) (λ t. IsDone old t new)
-answers_round given over tick keeper old found new same is runs rests busy (inl stays) =
-    subst (λ (o : Option ℕ). MatchOption o (new.done ≡ old.done) (λ t. IsDone old t new)) (sym stays.1) ((runs.in_work (busy stays.0)).2 ∙ same.2)
-answers_round given over tick keeper old found new same is runs rests busy (inr ended) =
-    let d = runs.done (rests ended.0) in
-    subst (λ (o : Option ℕ). MatchOption o (new.done ≡ old.done) (λ t. IsDone old t new)) (sym ended.1)
-    (d.0, d.1 ∙ is.2, d.2 ∙ same.1, d.3 ∙ ap (λ (l : List Snapshot). l ++ d.0 ∷ []) same.2, d.4)
 
 -- ---- a step
 

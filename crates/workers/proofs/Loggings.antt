@@ -9,7 +9,7 @@ use Rattle.action_log.specs.declared.answer.LogAnswer.{LogAnswer}
 use Rattle.action_log.specs.declared.answer.LogAnswer.TheVariants as answer
 use Rattle.action_log.specs.declared.progress.Progress.{Progress}
 use Rattle.action_log.specs.Queue.{QueueEnd}
-use Rattle.action_log.specs.Progress.{QueueFollows, QueueFollowsIn, end_of, end_in, work_of, rest_in, switch_in}
+use Rattle.action_log.specs.Progress.{QueueFollows, QueueFollowsIn, end_of, end_in, work_of, switch_in}
 use Rattle.action_log.specs.Logs.{Logs}
 use Rattle.action_log.specs.Files.{FitsFiles}
 use Rattle.recovery.specs.Events.{with_work}
@@ -153,13 +153,6 @@ module _ {D : Type 0} (file : D → List ℕ) (leaves : D → List ℕ → Type 
 
 -- ---- the items that a turn pops
 
--- an item that isn't the last one is queued
-pub queued_one : (end : QueueEnd) (item : Item) (ring : List Record) → Goes end item → is_stop item ≡ false → length (ring ++ record_of item) ≡ length ring + 1
-queued_one end (Start n) ring goes last = absurd goes
-queued_one end (Tick ended) ring goes last = length-append ring (records.Tick ended.tick ∷ [])
-queued_one end (Switch n) ring goes last = length-append ring (records.Switch n ∷ [])
-queued_one end Stop ring goes last = absurd (cc)
-
 pub no_more_answers : (items : List Item) → length (all_answers_of items) ≤ length (records_of items)
 no_more_answers [] = omega arith
 no_more_answers (Start n ∷ items) = no_more_answers items
@@ -287,6 +280,3 @@ module _ {D : Type 0} (file : D → List ℕ) (leaves : D → List ℕ → Type 
   begins_of from covers reported_down log opening ring answers tick opened unreported most ready fits ring_is answers_is opening_is =
       subst (λ (x : Buffer Record × Answering × Log D). IsLogging file leaves honest (record (writer_at from covers reported_down log tick) { ring = x.0; answers = x.1; opening = x.2 }))
       (λ i. (sym ring_is i, sym answers_is i, sym opening_is i)) (begins from covers reported_down log tick opened unreported most ready fits)
-
-pub ready_rests : (keeper : Progress) (tick : ℕ) → IsReady keeper tick → work_of keeper [] ≡ 0
-ready_rests keeper tick ready = ap (λ p. rest_in p keeper.other_shut + 0) ready.phase

@@ -1,5 +1,5 @@
 -- The waiting answers are of consecutive ticks.
-use Rattle.std.proofs.Common.{arith, ◌≡◌, ℕ, ◌+◌, ◌<◌, ◌≤◌, List, [], ◌∷◌, ◌++◌, length, length-append, refl, sym, ap, ◌∙◌, subst, All, Some, None, slice_get}
+use Rattle.std.proofs.Common.{arith, ◌≡◌, ℕ, ◌+◌, ◌<◌, ◌≤◌, List, [], ◌∷◌, ◌++◌, length, length-append, refl, sym, ap, ◌∙◌, subst, All, Some, slice_get}
 use Rattle.std.proofs.lemmas.List.{append_assoc}
 use Rattle.std.proofs.lemmas.List.Elements.{All-nil, All-push, All-cons}
 use Rattle.workers.specs.Posts.{Unposted}
@@ -26,26 +26,11 @@ first_later receipt number waiting first next is later =
     let known : AreNext number (first ∷ front.0) = subst (AreNext number) front.1 next in
     subst (AreLater receipt) (sym front.1) (all_later receipt number (first ∷ front.0) known (omega (arith, known.0, later)))
 
-pub none_later : (receipt : ℕ) (waiting : List Unposted) → None ≡ slice_get waiting 0 → AreLater receipt waiting
-none_later receipt [] is = All-nil (λ (w : Unposted). receipt < w.number)
-none_later receipt (first ∷ rest) is = absurd (cc)
-
 pub rest_next : (number : ℕ) (waiting : List Unposted) (first : Unposted) (rest : List Unposted) → AreNext number waiting
     → waiting ≡ first ∷ rest → (first.number ≡ number + 1) × AreNext first.number rest
 rest_next number waiting first rest next is =
     let known : AreNext number (first ∷ rest) = subst (AreNext number) is next in
     (known.0, subst (λ n. AreNext n rest) (sym known.0) known.1)
-
-pub posts_none : (receipt : ℕ) (old : Answering) → Posts receipt old old
-posts_none receipt old = record {
-  done = [];
-  order = refl;
-  durable = All-nil (λ (w : Unposted). w.number ≤ receipt);
-  room = refl;
-  answered = omega arith;
-  posted = λ same. same;
-  most = λ number few least. few;
-}
 
 pub posts_more : (receipt : ℕ) (old mid : Answering) (first : Unposted) (rest : List Unposted) → Posts receipt old mid
     → mid.waiting ≡ first ∷ rest → first.number ≤ receipt → first.number ≡ mid.answered + 1

@@ -15,3 +15,5 @@ pub mod Publishing
 pub mod Imaging
 pub mod Meeting
 pub mod Looking
+pub mod LoggingView
+pub mod PlayingView

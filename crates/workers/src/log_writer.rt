@@ -75,33 +75,11 @@ impl<D: Disk + Drop, G: Gate + Drop> Model for LogWriter<D, G> {
 
     ghost Value = { Logging D };
 
-    ghost view = { λ w. record {
-      from = w.from;
-      covers = w.covers;
-      reported_down = w.reported_down;
-      log = w.log;
-      ring = w.ring;
-      answers = w.answers;
-      opening = w.opening.value;
-      acked = w.acked;
-      down = w.down;
-      over = w.over;
-    } };
+    ghost use Rattle.workers.specs.LoggingView.{logging_of};
 
-    ghost invariant = { λ w.
-        IsLogging D.content D.may_leave
-        D.honest (record {
-          from = w.from;
-          covers = w.covers;
-          reported_down = w.reported_down;
-          log = w.log;
-          ring = w.ring;
-          answers = w.answers;
-          opening = w.opening.value;
-          acked = w.acked;
-          down = w.down;
-          over = w.over;
-        }) };
+    ghost view = { logging_of };
+
+    ghost invariant = { λ w. IsLogging D.content D.may_leave D.honest (logging_of w) };
 }
 
 impl<D: Disk + Drop, G: Gate + Drop> LogWriter<D, G> {

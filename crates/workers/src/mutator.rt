@@ -58,32 +58,11 @@ impl<M: Method, G: Gate + Drop> Model for Mutator<M, G> {
 
     ghost Value = { Playing };
 
-    ghost view = { λ m. record {
-      asks = m.asks;
-      front = m.front;
-      to = m.to;
-      heard = m.heard;
-      opening = m.opening.value.live;
-      ended = m.ended;
-      since = m.since;
-      every = m.every;
-      stopped = m.stopped;
-      owed = m.owed;
-    } };
+    ghost use Rattle.workers.specs.PlayingView.{playing_of};
 
-    ghost invariant = { λ m.
-        IsMutator (record {
-          asks = m.asks;
-          front = m.front;
-          to = m.to;
-          heard = m.heard;
-          opening = m.opening.value.live;
-          ended = m.ended;
-          since = m.since;
-          every = m.every;
-          stopped = m.stopped;
-          owed = m.owed;
-        }) };
+    ghost view = { playing_of };
+
+    ghost invariant = { λ m. IsMutator (playing_of m) };
 }
 
 impl<M: Method, G: Gate + Drop> Mutator<M, G> {
