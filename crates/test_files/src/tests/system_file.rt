@@ -6,6 +6,7 @@ use std::io::{self, ErrorKind};
 use std::path::PathBuf;
 use std::process::Abort;
 use std::test::Fail;
+use std::time::{Duration, Instant};
 use std::{env, fs, process};
 use world_actions::Refusal;
 
@@ -201,5 +202,30 @@ fn fails_read(disk: &mut FileDisk) -> bool {
 fn a_folder_is_not_read(rt: HostRuntime) -> Result<(), Fail> {
     let folder = new_folder(&rt, "folder")?;
     assert!(rt; fails_read(&mut open_folder(&rt, &folder)?));
+    remove(&rt, &folder)
+}
+
+// Writes 128 KiB, each by one call.
+fn write_kilobytes(disk: &mut FileDisk) -> Result<(), Refusal> {
+    for place in 0..128 {
+        disk.write_at(place * 1024, &[7; 1024])?;
+    }
+    Ok(())
+}
+
+// How long the writes to a paced disk take, if they are made.
+fn time_of_writes(rt: &HostRuntime, disk: &mut FileDisk) -> Result<Duration, Fail> {
+    disk.pace();
+    let begun = Instant::now(rt)?;
+    write_kilobytes(disk)?;
+    Ok(begun.elapsed(rt)?)
+}
+
+#[test]
+fn a_paced_file_pauses_after_each_64_kib(rt: HostRuntime) -> Result<(), Fail> {
+    let folder = new_folder(&rt, "paced")?;
+    let mut disk = open(&rt, &folder, true)?;
+    assert!(rt; time_of_writes(&rt, &mut disk)? >= Duration::from_millis(4));
+    assert!(rt; reads(rt.alloc(), &mut disk, &[7; 131_072])?);
     remove(&rt, &folder)
 }
