@@ -6,7 +6,8 @@
 #![tactic(auto)]
 
 mod opening;
-mod pause;
+mod pace;
 mod system_file;
 
+pub use pace::Pace;
 pub use system_file::FileDisk;

@@ -7,16 +7,13 @@ ghost use Rattle.disk_model.specs.Disk.{last_count, min-last_count, IsDeviceFaul
 ghost use Rattle.file_disk.specs.KnownFile.{after_failure, CallsFile};
 
 use crate::opening::{above_streams, drop_copies, if_writable};
-use crate::pause::pause;
+use crate::pace::{Pace, Paced, pause};
 use disk_model::Disk;
 use std::fs::{File, Metadata};
 use std::io::{self, ErrorKind};
 use std::marker::Model;
 use std::os::unix::fs::FileExt;
 use world_actions::Refusal;
-
-/// So many written bytes make a paced file sync and pause.
-const PACE_BYTES: u64 = 65_536;
 
 /// A file of the operating system. Contracts see a length that it has at least, and the number
 /// of its calls that failed. They see nothing of its content. Each read and each write is one
@@ -27,9 +24,7 @@ pub struct FileDisk {
     known_length: u64,
     faults: u64,
     failure: Option<io::Error>,
-    paced: bool,
-    /// How many bytes were written since the last sync.
-    unsynced: u64,
+    paced: Option<Paced>,
 }
 
 impl Model for FileDisk {
@@ -105,8 +100,7 @@ impl FileDisk {
                 known_length: metadata.len(),
                 faults: 0,
                 failure: None,
-                paced: false,
-                unsynced: 0,
+                paced: None,
             }),
             (Err(error), _, _) => Err(error),
             (_, Err(error), _) => Err(error),
@@ -166,25 +160,27 @@ impl FileDisk {
         Ok(())
     }
 
-    /// Paces the writes from now on: after each 64 KiB the file is synced, and the thread pauses
-    /// for 2 ms. So a device that other files share is never busy with this one for long.
-    pub fn pace(&mut self)
+    /// Paces the writes from now on. While play goes on, each 64 KiB are synced, and the thread
+    /// then pauses for 2 ms: the device is never busy for long with what only an image needs. Once
+    /// 8,192 ticks have ended since the last call of `sync`, the file isn't paced until the next.
+    pub fn pace(&mut self, pace: Pace)
         ensures { self.new ≡ self.old }
     {
-        self.paced = true;
+        self.paced = Some(Paced::by(pace));
     }
 
-    // Counts the bytes of a write. If the file is paced and many are unsynced, it is synced, with a
-    // pause. Returns the system's answer to that sync.
+    // Counts the bytes of a write. If they end a piece of a paced file, it is synced, with a pause.
+    // Returns the system's answer to that sync.
     fn keep_pace(&mut self, written: usize) -> io::Result<()>
         ensures { self.new ≡ self.old }
     {
-        self.unsynced = self.unsynced.saturating_add(written as u64);
-        if !self.paced || self.unsynced < PACE_BYTES {
+        let Some(paced) = &mut self.paced else {
+            return Ok(());
+        };
+        if !paced.ends_piece(written) {
             return Ok(());
         }
         let synced = self.file.sync_data();
-        self.unsynced = 0;
         pause();
         synced
     }
@@ -260,7 +256,9 @@ impl Disk for FileDisk {
 
     fn sync(&mut self) -> Result<(), Refusal> {
         let answer = self.file.sync_data();
-        self.unsynced = 0;
+        if let Some(paced) = &mut self.paced {
+            paced.synced();
+        }
         self.answered(answer)
     }
 }

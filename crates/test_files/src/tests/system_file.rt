@@ -1,5 +1,5 @@
 use disk_model::{Disk, read_all};
-use file_disk::FileDisk;
+use file_disk::{FileDisk, Pace};
 use std::alloc::Global;
 use std::fs::OpenOptions;
 use std::io::{self, ErrorKind};
@@ -213,19 +213,29 @@ fn write_kilobytes(disk: &mut FileDisk) -> Result<(), Refusal> {
     Ok(())
 }
 
-// How long the writes to a paced disk take, if they are made.
+// How long the writes to a disk take.
 fn time_of_writes(rt: &HostRuntime, disk: &mut FileDisk) -> Result<Duration, Fail> {
-    disk.pace();
     let begun = Instant::now(rt)?;
     write_kilobytes(disk)?;
     Ok(begun.elapsed(rt)?)
+}
+
+// True if the writes take as long as two pauses, once so many ticks have ended.
+fn pauses_at(rt: &HostRuntime, disk: &mut FileDisk, pace: &Pace, ticks: u64) -> Result<bool, Fail> {
+    pace.ticks_ended(ticks);
+    Ok(time_of_writes(rt, disk)? >= Duration::from_millis(4))
 }
 
 #[test]
 fn a_paced_file_pauses_after_each_64_kib(rt: HostRuntime) -> Result<(), Fail> {
     let folder = new_folder(&rt, "paced")?;
     let mut disk = open(&rt, &folder, true)?;
-    assert!(rt; time_of_writes(&rt, &mut disk)? >= Duration::from_millis(4));
+    let pace = Pace::new(rt.alloc())?;
+    disk.pace(pace.clone()?);
+    assert!(rt; pauses_at(&rt, &mut disk, &pace, 8_191)?);
+    pace.ticks_ended(20_000);
+    disk.sync()?;
+    assert!(rt; pauses_at(&rt, &mut disk, &pace, 28_191)?);
     assert!(rt; reads(rt.alloc(), &mut disk, &[7; 131_072])?);
     remove(&rt, &folder)
 }
