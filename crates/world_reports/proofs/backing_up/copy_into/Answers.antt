@@ -5,17 +5,17 @@ use Rattle.world_reports.proofs.backing_up.copy_into.Goals as goal
 
 pub returns-clause-backed_up : goal.returns-clause-backed_up
 returns-clause-backed_up g c = λ honest honest_files honest_into honest_copies. record {
-  copied = c.in-Ok.copied.files;
-  lengths = c.in-Ok.copied.lengths;
-  tries = c.in-Ok.copied.tries;
-  read = c.in-Ok-stands_in.read;
+  copied = c.in_ok-copied.copied.files;
+  lengths = c.in_ok-copied.copied.lengths;
+  tries = c.in_ok-copied.copied.tries;
+  read = c.in_ok-read.read;
   reported = c.in_ok-verified.verified.world;
   room = g.T.Folder.history c.look_for_room.new.into;
   written = g.T.Folder.history c.write_files.new.into;
   verified = g.T.Folder.history c.verify.new.folder;
-  copy = c.in-Ok.ensures.copied honest honest_files;
-  stands = c.in-Ok-stands_in.ensures.recovered;
-  whole = c.in-Ok-stands_in.ensures.whole;
+  copy = c.in_ok-copied.ensures.copied honest honest_files;
+  stands = c.in_ok-read.ensures.recovered;
+  whole = c.in_ok-read.ensures.whole;
   is_room = c.in_ok-look_for_room.ensures.empty honest_into;
   are_written = c.in_ok-files.ensures.written honest_into honest_copies;
   is_verified = c.in_ok-verified.ensures.verified honest_into honest_copies;
