@@ -123,7 +123,7 @@ fn copy_from<F: Folder>(
         }
         folder.pause();
     }
-    Err(NotCopied::Unsteady(unsteady(alloc, source.path)))
+    Err(NotCopied::Unsteady(ending_for(alloc, source.path, UNSTEADY)))
 }
 
 fn open_source<'a, F: Folder>(
@@ -199,14 +199,14 @@ fn try_copy<D: WorldDisk>(
     }
 }
 
-// How the program ends if no copy could be taken.
-fn unsteady(alloc: Global, folder: &str) -> Ending
+/// How the program ends if this folder can't be used, and why.
+pub fn ending_for(alloc: Global, folder: &str, why: &'static str) -> Ending
     ensures { IsFault result }
 {
     match path_of(alloc, "", folder) {
         Ok(path) => Ending::Unreadable(Unreadable {
             path,
-            error: io::Error::other(UNSTEADY),
+            error: io::Error::other(why),
         }),
         Err(_) => Ending::Fault(Refusal::NoMemory),
     }

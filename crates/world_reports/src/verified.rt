@@ -5,12 +5,12 @@ ghost use Rattle.world_folder.specs.Texts.{world_text};
 ghost use Rattle.world_reports.specs.Texts.{backed_up_text, salvaged_text};
 ghost use Rattle.world_reports.specs.Verified.{IsSameWorld, IsVerified};
 
+use crate::copying::ending_for;
 use crate::recovering::found_in;
 use recovery::Recovered;
 use std::alloc::Global;
-use std::{fmt, io};
-use world_actions::Refusal;
-use world_folder::{Ending, Folder, Unreadable, WorldReport, path_of, read_folder};
+use std::fmt;
+use world_folder::{Ending, Folder, WorldReport, read_folder};
 
 /// Why what was written isn't reported as a world.
 const OTHER_WORLD: &str = "its files hold another world than was written into them";
@@ -62,7 +62,7 @@ pub fn verify<F: Folder>(
     let found = found_in(alloc, path, read)?;
     match Verified::of(written, &found) {
         Some(verified) => Ok(verified),
-        None => Err(other_world(alloc, path)),
+        None => Err(ending_for(alloc, path, OTHER_WORLD)),
     }
 }
 
@@ -87,18 +87,5 @@ impl fmt::Display for SalvagedInto {
 
     fn fmt<W: fmt::Write>(&self, f: &mut fmt::Formatter<W>) -> fmt::Result {
         write!(f, "salvaged {}", self.0)
-    }
-}
-
-// How the program ends if another world was found.
-fn other_world(alloc: Global, folder: &str) -> Ending
-    ensures { IsFault result }
-{
-    match path_of(alloc, "", folder) {
-        Ok(path) => Ending::Unreadable(Unreadable {
-            path,
-            error: io::Error::other(OTHER_WORLD),
-        }),
-        Err(_) => Ending::Fault(Refusal::NoMemory),
     }
 }

@@ -5,15 +5,15 @@ use Rattle.world_reports.proofs.backing_up.copy_into.Goals as goal
 
 pub returns-clause-backed_up : goal.returns-clause-backed_up
 returns-clause-backed_up g c = λ honest honest_files honest_into honest_copies. record {
-  copied = c.in_ok-copied.copied.files;
-  lengths = c.in_ok-copied.copied.lengths;
-  tries = c.in_ok-copied.copied.tries;
+  copied = c.in-Ok.copied.files;
+  lengths = c.in-Ok.copied.lengths;
+  tries = c.in-Ok.copied.tries;
   read = c.in_ok-read.read;
   reported = c.in_ok-verified.verified.world;
   room = g.T.Folder.history c.look_for_room.new.into;
   written = g.T.Folder.history c.write_files.new.into;
   verified = g.T.Folder.history c.verify.new.folder;
-  copy = c.in_ok-copied.ensures.copied honest honest_files;
+  copy = c.in-Ok.ensures.copied honest honest_files;
   stands = c.in_ok-read.ensures.recovered;
   whole = c.in_ok-read.ensures.whole;
   is_room = c.in_ok-look_for_room.ensures.empty honest_into;

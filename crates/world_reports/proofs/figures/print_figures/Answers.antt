@@ -5,11 +5,11 @@ use Rattle.world_reports.proofs.figures.print_figures.Goals as goal
 
 pub returns-clause-reported : goal.returns-clause-reported
 returns-clause-reported g c = λ honest honest_files. record {
-  copied = c.in_ok-copied.copied.files;
-  lengths = c.in_ok-copied.copied.lengths;
+  copied = c.in-Ok.copied.files;
+  lengths = c.in-Ok.copied.lengths;
   figures = c.in_ok-figures.figures;
   acts = g.F.Folder.history c.copy_world.new.folder;
-  copy = c.in_ok-copied.ensures.copied honest honest_files;
+  copy = c.in-Ok.ensures.copied honest honest_files;
   are_figures = c.in_ok-figures.ensures.figures;
-  printed = c.in_ok-print-2.ensures.printed honest ∙ (λ i. Printed (lengths_text c.in_ok-copied.copied.lengths) ∷ c.in_ok-print.ensures.printed honest i);
+  printed = c.in_ok-print-2.ensures.printed honest ∙ (λ i. Printed (lengths_text c.in-Ok.copied.lengths) ∷ c.in_ok-print.ensures.printed honest i);
 }
