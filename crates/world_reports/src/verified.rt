@@ -5,12 +5,11 @@ ghost use Rattle.world_folder.specs.Texts.{world_text};
 ghost use Rattle.world_reports.specs.Texts.{backed_up_text, salvaged_text};
 ghost use Rattle.world_reports.specs.Verified.{IsSameWorld, IsVerified};
 
-use crate::copying::ending_for;
 use crate::recovering::found_in;
 use recovery::Recovered;
 use std::alloc::Global;
-use std::fmt;
-use world_folder::{Ending, Folder, WorldReport, read_folder};
+use std::{fmt, io};
+use world_folder::{Ending, Folder, WorldReport, ending_for, read_folder};
 
 /// Why what was written isn't reported as a world.
 const OTHER_WORLD: &str = "its files hold another world than was written into them";
@@ -62,7 +61,7 @@ pub fn verify<F: Folder>(
     let found = found_in(alloc, path, read)?;
     match Verified::of(written, &found) {
         Some(verified) => Ok(verified),
-        None => Err(ending_for(alloc, path, OTHER_WORLD)),
+        None => Err(ending_for(alloc, "", path, io::Error::other(OTHER_WORLD))),
     }
 }
 
