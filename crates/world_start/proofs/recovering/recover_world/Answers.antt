@@ -97,19 +97,11 @@ returns-clause-recovered g c =
     let found = c.in_ok-found.found in
     let bytes = c.in_ok-bytes.bytes in
     let b = c.in_ok-engine.ensures.begins in
-    let of_bytes = chosen g.D.Disk.content g.D.Disk.honest c.args.files.now (Ok (recovery_of_answer found)) bytes.image_a.items bytes.image_b.items bytes.log_a.items bytes.log_b.items
+    let held = chosen g.D.Disk.content g.D.Disk.honest c.args.files.now (Ok (recovery_of_answer found)) bytes.image_a.items bytes.image_b.items bytes.log_a.items bytes.log_b.items
     (recovers_on (Ok (recovery_of_answer found)) c.deref.ensures.value c.deref-2.ensures.value c.deref-3.ensures.value
     c.deref-4.ensures.value c.in_ok-found.ensures.recovered) c.in_ok-bytes.ensures.read in
     record {
-      bytes = record {
-        image_a = of_bytes.image_a;
-        image_b = of_bytes.image_b;
-        log_a = of_bytes.log_a;
-        log_b = of_bytes.log_b;
-        recovery = recovery_of_answer found;
-        recovers = of_bytes.recovers;
-        read = of_bytes.read;
-      };
+      bytes = record { image_a = held.image_a; image_b = held.image_b; log_a = held.log_a; log_b = held.log_b; recovery = recovery_of_answer found; recovers = held.recovers; read = held.read };
       tick_is = b.ended;
       from_is = refl;
       words = built_live c.deref-5.result.now (nat_lt found.from found.tick) (g.C.Capture.content c.in_ok-engine.engine.store) b.store ∙ c.deref-5.ensures.value;
