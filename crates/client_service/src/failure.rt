@@ -4,19 +4,12 @@ ghost use Rattle.std.specs.IoError.{raw_os_error};
 ghost use Rattle.client_service.specs.Accepting.{next_pause};
 
 use crate::door::Door;
+use libc::{ECONNABORTED, EINTR, EMFILE, ENOMEM};
 use std::time::{Clock, Duration};
 use std::{io, thread};
 
-// The system's error numbers.
-const EINTR: i32 = 4;
-
-const ENOMEM: i32 = 12;
-
+// Error numbers of the system that `libc` lacks.
 const ENFILE: i32 = 23;
-
-const EMFILE: i32 = 24;
-
-const ECONNABORTED: i32 = 103;
 
 const ENOBUFS: i32 = 105;
 

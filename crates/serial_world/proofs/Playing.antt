@@ -27,7 +27,7 @@ use Rattle.world_start.specs.Engine.{Follows}
 use Rattle.world_start.specs.Running.{CellsLeft}
 use Rattle.world_start.specs.Steps.{IsAtRest, LogInOrder}
 use Rattle.serial_world.specs.Runs.{HasImageOf}
-use Rattle.world_start.proofs.Following.{none_waits, stands_at, logs_of_place, newest_of, newest_is_base}
+use Rattle.world_start.proofs.Following.{none_waits, stands_at, logs_of_place, follows_anew, newest_of, newest_is_base}
 use Rattle.serial_world.specs.Steps.{Plays, BeginsRound}
 
 -- the file of the newest image has it, whatever a crash leaves
@@ -66,22 +66,11 @@ module _ {C D : Type 0} (content : C → Content) (file : D → List ℕ) (leave
       let done : after_actions live p.tick.list ≡ Ok (content new.store).live = ap (after_actions live) p.list ∙ (accepts requests live ∙ ap (λ (w : List ℕ). Ok w) (sym p.live)) in
       let on = goes.tick first ticks f.count f.images logs.0 old.queue.items p.tick (content old.store) (content new.store) f.world done p.left p.covers
       (subst (λ j. InStep first ticks f.count (content old.store) f.images j old.queue.items) logs.1 f.in_step) in
-      let mid : Engine C = record old { store = new.store; queue = new.queue; ended = old.ended + 1; since = old.since + 1 } in
-      let after : Follows content file leaves mid files first (ticks ++ p.tick.list ∷ []) acknowledged = record {
-        images = f.images;
-        cells = f.cells;
-        has_images = f.has_images;
-        log = record {
-          place = f.place;
-          stands = f.has_log;
-          count = f.count;
-          at_least = f.at_least;
-          in_step = subst (λ q. InStep first (ticks ++ p.tick.list ∷ []) f.count (content new.store) f.images f.place.journal q) (sym p.queue)
-              (subst (λ j. InStep first (ticks ++ p.tick.list ∷ []) f.count (content new.store) f.images j (old.queue.items ++ records.Tick p.tick ∷ [])) (sym logs.1) on.1);
-        };
-        world = on.0;
-        ended = omega (arith, f.ended, length-append ticks (p.tick.list ∷ []));
-      } in
+      let after =
+      follows_anew content file leaves old new.store new.queue (old.ended + 1) (old.since + 1) files first ticks (ticks ++ p.tick.list ∷ []) acknowledged acknowledged f.count f f.at_least
+      (subst (λ q. InStep first (ticks ++ p.tick.list ∷ []) f.count (content new.store) f.images f.place.journal q) (sym p.queue)
+      (subst (λ j. InStep first (ticks ++ p.tick.list ∷ []) f.count (content new.store) f.images j (old.queue.items ++ records.Tick p.tick ∷ [])) (sym logs.1) on.1))
+      on.0 (omega (arith, f.ended, length-append ticks (p.tick.list ∷ []))) in
       subst (λ l. Follows content file leaves new files first (ticks ++ l ∷ []) acknowledged) p.list
       (subst (λ e. Follows content file leaves e files first (ticks ++ p.tick.list ∷ []) acknowledged) (sym p.is) after)
 

@@ -2,3 +2,4 @@ mod Hearing
 mod Keeping
 mod Opening
 mod Sends
+pub mod Stopping

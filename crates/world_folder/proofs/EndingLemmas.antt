@@ -1,5 +1,5 @@
 -- The exit status of a world that wasn't made.
-use Rattle.std.proofs.Common.{◌≡◌, ℕ, Some, None, subst}
+use Rattle.std.proofs.Common.{◌≡◌, ℕ, Some, subst}
 use Rattle.std.specs.declared.io.Error.{Error}
 use Rattle.world_folder.specs.declared.unfinished.Why.{Why}
 use Rattle.world_folder.specs.declared.unfinished.Why.TheVariants as why
@@ -11,7 +11,3 @@ same_error one other e = cc
 pub status_by_error : (reason : Why) (error : Error) (status : ℕ) → Some error ≡ error_of_why reason → IsStatusOfError error status → IsStatusOfUnfinished reason status
 status_by_error why.NoMemory error status e is = absurd cc
 status_by_error (why.File file) error status e is = subst (λ (x : Error). IsStatusOfError x status) (same_error error file.error e) is
-
-pub status_without : (reason : Why) (status : ℕ) → None ≡ error_of_why reason → status ≡ 13 → IsStatusOfUnfinished reason status
-status_without why.NoMemory status e is = is
-status_without (why.File file) status e is = absurd cc

@@ -1,6 +1,7 @@
 -- The calls that a program made in a folder, and the lines that it printed: its history, the
 -- latest one first.
 use Rattle.std.specs.Prelude.{◌≡◌, ℕ, List, ◌∷◌, Option, Some, None}
+use Rattle.disk_model.specs.declared.four_files.FourFiles.{FourFiles}
 use Rattle.world_folder.specs.declared.entry.Entry.{Entry}
 use Rattle.world_folder.specs.declared.locks.LockState.{LockState}
 use Rattle.world_folder.specs.declared.world_file.WorldFile.{WorldFile}
@@ -31,6 +32,17 @@ pub data Act : Type 0 where
   -- a line with this text was printed, on standard output or on standard error
   Printed : List ℕ → Act
   Warned : List ℕ → Act
+
+-- such calls were made for each file of four, under its own name, image.a first
+pub record AreInTurn {X : Type 0} (AreFor : WorldFile → X → (before after : List Act) → Type 0)
+    (files : FourFiles X) (before after : List Act) : Type 0 where
+  pub with_image_a : List Act
+  pub with_image_b : List Act
+  pub with_log_a : List Act
+  pub image_a : AreFor ImageA files.image_a before with_image_a
+  pub image_b : AreFor ImageB files.image_b with_image_a with_image_b
+  pub log_a : AreFor LogA files.log_a with_image_b with_log_a
+  pub log_b : AreFor LogB files.log_b with_log_a after
 
 -- a line was printed on standard output: the one whose text is stated, if it is
 abbrev pub IsPrinted : Option (List ℕ) → (before after : List Act) → Type 0

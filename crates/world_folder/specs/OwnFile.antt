@@ -5,8 +5,7 @@ use Rattle.world_folder.specs.declared.entry.Identity.{Identity}
 use Rattle.world_folder.specs.declared.entry.Entry.{Entry}
 use Rattle.world_folder.specs.declared.entry.FileKind.TheVariants.{Regular}
 use Rattle.world_folder.specs.declared.world_file.WorldFile.{WorldFile}
-use Rattle.world_folder.specs.declared.world_file.WorldFile.TheVariants.{ImageA, ImageB, LogA, LogB}
-use Rattle.world_folder.specs.History.{Act, Looked, Opened, NamesSynced, with_lock}
+use Rattle.world_folder.specs.History.{Act, Looked, Opened, NamesSynced, AreInTurn, with_lock}
 
 -- an entry, for files of which contracts state none
 abbrev pub no_identity : Identity
@@ -49,14 +48,9 @@ module _ {D : Type 0} (identity : D → Identity) where
   IsOwnIfThere file (Some disk) before after = IsOwn file (identity disk) before after
 
   -- each file of four, by its own name, image.a first
-  pub record AreOwn (files : FourFiles D) (before after : List Act) : Type 0 where
-    pub with_image_a : List Act
-    pub with_image_b : List Act
-    pub with_log_a : List Act
-    pub image_a : IsOwn ImageA (identity files.image_a) before with_image_a
-    pub image_b : IsOwn ImageB (identity files.image_b) with_image_a with_image_b
-    pub log_a : IsOwn LogA (identity files.log_a) with_image_b with_log_a
-    pub log_b : IsOwn LogB (identity files.log_b) with_log_a after
+  abbrev pub AreOwn : FourFiles D → (before after : List Act) → Type 0
+  AreOwn files before after =
+      AreInTurn (λ (file : WorldFile) (disk : D). IsOwn file (identity disk)) files before after
 
   -- four different files are open to be written, and their names are durable
   pub record AreHeld (files : FourFiles D) (before after : List Act) : Type 0 where
@@ -68,11 +62,5 @@ module _ {D : Type 0} (identity : D → Identity) where
     pub synced : after ≡ NamesSynced ∷ opened
 
   -- each file of four was looked for by its own name, image.a first
-  pub record AreLookedFor (files : FourFiles (Option D)) (before after : List Act) : Type 0 where
-    pub with_image_a : List Act
-    pub with_image_b : List Act
-    pub with_log_a : List Act
-    pub image_a : IsOwnIfThere ImageA files.image_a before with_image_a
-    pub image_b : IsOwnIfThere ImageB files.image_b with_image_a with_image_b
-    pub log_a : IsOwnIfThere LogA files.log_a with_image_b with_log_a
-    pub log_b : IsOwnIfThere LogB files.log_b with_log_a after
+  abbrev pub AreLookedFor : FourFiles (Option D) → (before after : List Act) → Type 0
+  AreLookedFor files before after = AreInTurn IsOwnIfThere files before after

@@ -8,7 +8,7 @@ use Rattle.file_readers.specs.Reading.{IsSegmentRead}
 use Rattle.world_folder.specs.declared.world_file.Named.{Named}
 use Rattle.world_folder.specs.declared.world_file.WorldFile.{WorldFile}
 use Rattle.world_folder.specs.declared.world_file.WorldFile.TheVariants.{ImageA, ImageB, LogA, LogB}
-use Rattle.world_folder.specs.History.{Act, Read}
+use Rattle.world_folder.specs.History.{Act, Read, AreInTurn}
 
 -- these bytes of a file are all that its format reads
 abbrev pub IsFileRead : WorldFile → (file bytes : List ℕ) → Type 0
@@ -27,12 +27,8 @@ IsReadIn file (Err error) before after =
     (after ≡ before) ⊎ ((content : List ℕ) × (after ≡ Read file content ∷ before))
 
 -- each file of four was read by its own name
-pub record AreReadIn (files : FourFiles (Named (Result (Vec ℕ Global) Error)))
-    (before after : List Act) : Type 0 where
-  pub with_image_a : List Act
-  pub with_image_b : List Act
-  pub with_log_a : List Act
-  pub image_a : IsReadIn ImageA files.image_a.value before with_image_a
-  pub image_b : IsReadIn ImageB files.image_b.value with_image_a with_image_b
-  pub log_a : IsReadIn LogA files.log_a.value with_image_b with_log_a
-  pub log_b : IsReadIn LogB files.log_b.value with_log_a after
+abbrev pub AreReadIn : FourFiles (Named (Result (Vec ℕ Global) Error)) → (before after : List Act)
+    → Type 0
+AreReadIn files before after =
+    AreInTurn (λ (file : WorldFile) (named : Named (Result (Vec ℕ Global) Error)).
+    IsReadIn file named.value) files before after

@@ -47,7 +47,9 @@ pub use lost::{Doubtful, Lost, doubtful_log};
 pub use making::{Made, make_in, make_of_words};
 pub use model_folder::{ModelDisk, ModelFolder, ModelHandle};
 pub use noted::Noted;
-pub use opening::{Unreadable, failure_of, open_existing, open_files, opened, path_of, sync_names};
+pub use opening::{
+    Unreadable, ending_for, failure_of, open_existing, open_files, opened, path_of, sync_names,
+};
 pub use reading::{all_read, answered, read_folder, read_whole};
 pub use system_error::Reason;
 pub use system_folder::SystemFolder;

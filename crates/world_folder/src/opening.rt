@@ -172,10 +172,18 @@ pub fn opened<T>(
 {
     match answer {
         Ok(value) => Ok(value),
-        Err(error) => match path_of(alloc, folder, name) {
-            Ok(path) => Err(Ending::Unreadable(Unreadable { path, error })),
-            Err(_) => Err(Ending::Fault(Refusal::NoMemory)),
-        },
+        Err(error) => Err(ending_for(alloc, folder, name, error)),
+    }
+}
+
+/// How the program ends if the file of this name in a folder can't be used, and why.
+pub fn ending_for(alloc: Global, folder: &str, name: &str, error: io::Error) -> Ending
+    ensures reports { ReportsOf folder.now name.now error result }
+    ensures fault { IsFault result }
+{
+    match path_of(alloc, folder, name) {
+        Ok(path) => Ending::Unreadable(Unreadable { path, error }),
+        Err(_) => Ending::Fault(Refusal::NoMemory),
     }
 }
 

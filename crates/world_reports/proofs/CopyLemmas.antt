@@ -8,7 +8,7 @@ use Rattle.file_readers.specs.Reading.{IsSegmentRead}
 use Rattle.world_reports.specs.declared.copying.Images.{Images}
 use Rattle.world_reports.specs.declared.copying.Images.TheVariants.{Newest, Both}
 use Rattle.world_folder.specs.declared.look.TheConstants.{IMAGE_HEAD, SEGMENT_HEAD}
-use Rattle.world_reports.specs.Copying.{AreSameContents, AreHeads, AreParts, AreLengths, AreShut, IsCopyOf, IsNewestIn, shut_older, whole_files}
+use Rattle.world_reports.specs.Copying.{AreSameContents, AreHeads, AreParts, AreLengths, AreShut, IsCopyOf, IsImageCopied, IsNewestIn, shut_older, whole_files}
 use Rattle.world_folder.specs.Fault.{Files}
 use Rattle.world_reports.specs.Looks.{IsNewest}
 
@@ -37,42 +37,40 @@ module _ {D : Type 0} (content : D → List ℕ) (s t : FourFiles D) (heads file
   older_along x y bytes other e b o =
       subst (λ (z : List ℕ). other ≡ shut_older (take IMAGE_HEAD z)) e (subst (λ (z : List ℕ). other ≡ shut_older z) b o)
 
+  -- a copy of the files, if the images and the segments are copied
+  copied_so : (images : Images) (newest : Slot) → AreSameContents content s t → AreHeads content s heads → IsNewest heads newest → AreLengths content t lengths
+      → IsImageCopied images newest A (content s.image_a) copied.image_a.items → IsImageCopied images newest B (content s.image_b) copied.image_b.items
+      → copied.log_a.items ≡ files.log_a.items → IsSegmentRead (content t.log_a) files.log_a.items
+      → copied.log_b.items ≡ files.log_b.items → IsSegmentRead (content t.log_b) files.log_b.items
+      → IsCopyOf content images s copied lengths
+  copied_so images newest same h is sizes image_a image_b is_a log_a is_b log_b = record {
+    newest = newest;
+    found = found_of newest h is;
+    image_a_copied = image_a;
+    image_b_copied = image_b;
+    log_a_copied = segment_along (content s.log_a) (content t.log_a) files.log_a.items copied.log_a.items same.log_a is_a log_a;
+    log_b_copied = segment_along (content s.log_b) (content t.log_b) files.log_b.items copied.log_b.items same.log_b is_b log_b;
+    image_a_length = sizes.image_a ∙ (λ i. length (same.image_a i));
+    image_b_length = sizes.image_b ∙ (λ i. length (same.image_b i));
+    log_a_length = sizes.log_a ∙ (λ i. length (same.log_a i));
+    log_b_length = sizes.log_b ∙ (λ i. length (same.log_b i));
+  }
+
   pub copy_of : (images : Images) (newest : Slot) → AreSameContents content s t → AreHeads content s heads → IsNewest heads newest
       → AreParts content (whole_files images newest) t files → AreLengths content t lengths → AreShut images newest files copied
       → IsCopyOf content images s copied lengths
-  copy_of Both newest same h is parts sizes shut = record {
-    newest = newest;
-    found = found_of newest h is;
-    image_a_copied = image_along (content s.image_a) (content t.image_a) files.image_a.items copied.image_a.items same.image_a (λ i. (shut i).image_a.items) parts.image_a;
-    image_b_copied = image_along (content s.image_b) (content t.image_b) files.image_b.items copied.image_b.items same.image_b (λ i. (shut i).image_b.items) parts.image_b;
-    log_a_copied = segment_along (content s.log_a) (content t.log_a) files.log_a.items copied.log_a.items same.log_a (λ i. (shut i).log_a.items) parts.log_a;
-    log_b_copied = segment_along (content s.log_b) (content t.log_b) files.log_b.items copied.log_b.items same.log_b (λ i. (shut i).log_b.items) parts.log_b;
-    image_a_length = sizes.image_a ∙ (λ i. length (same.image_a i));
-    image_b_length = sizes.image_b ∙ (λ i. length (same.image_b i));
-    log_a_length = sizes.log_a ∙ (λ i. length (same.log_a i));
-    log_b_length = sizes.log_b ∙ (λ i. length (same.log_b i));
-  }
-  copy_of Newest A same h is parts sizes shut = record {
-    newest = A;
-    found = found_of A h is;
-    image_a_copied = image_along (content s.image_a) (content t.image_a) files.image_a.items copied.image_a.items same.image_a (λ i. (shut.0 i).items) parts.image_a;
-    image_b_copied = older_along (content s.image_b) (content t.image_b) files.image_b.items copied.image_b.items same.image_b parts.image_b shut.1;
-    log_a_copied = segment_along (content s.log_a) (content t.log_a) files.log_a.items copied.log_a.items same.log_a (λ i. (shut.2 i).items) parts.log_a;
-    log_b_copied = segment_along (content s.log_b) (content t.log_b) files.log_b.items copied.log_b.items same.log_b (λ i. (shut.3 i).items) parts.log_b;
-    image_a_length = sizes.image_a ∙ (λ i. length (same.image_a i));
-    image_b_length = sizes.image_b ∙ (λ i. length (same.image_b i));
-    log_a_length = sizes.log_a ∙ (λ i. length (same.log_a i));
-    log_b_length = sizes.log_b ∙ (λ i. length (same.log_b i));
-  }
-  copy_of Newest B same h is parts sizes shut = record {
-    newest = B;
-    found = found_of B h is;
-    image_a_copied = older_along (content s.image_a) (content t.image_a) files.image_a.items copied.image_a.items same.image_a parts.image_a shut.0;
-    image_b_copied = image_along (content s.image_b) (content t.image_b) files.image_b.items copied.image_b.items same.image_b (λ i. (shut.1 i).items) parts.image_b;
-    log_a_copied = segment_along (content s.log_a) (content t.log_a) files.log_a.items copied.log_a.items same.log_a (λ i. (shut.2 i).items) parts.log_a;
-    log_b_copied = segment_along (content s.log_b) (content t.log_b) files.log_b.items copied.log_b.items same.log_b (λ i. (shut.3 i).items) parts.log_b;
-    image_a_length = sizes.image_a ∙ (λ i. length (same.image_a i));
-    image_b_length = sizes.image_b ∙ (λ i. length (same.image_b i));
-    log_a_length = sizes.log_a ∙ (λ i. length (same.log_a i));
-    log_b_length = sizes.log_b ∙ (λ i. length (same.log_b i));
-  }
+  copy_of Both newest same h is parts sizes shut =
+      copied_so Both newest same h is sizes
+      (image_along (content s.image_a) (content t.image_a) files.image_a.items copied.image_a.items same.image_a (λ i. (shut i).image_a.items) parts.image_a)
+      (image_along (content s.image_b) (content t.image_b) files.image_b.items copied.image_b.items same.image_b (λ i. (shut i).image_b.items) parts.image_b)
+      (λ i. (shut i).log_a.items) parts.log_a (λ i. (shut i).log_b.items) parts.log_b
+  copy_of Newest A same h is parts sizes shut =
+      copied_so Newest A same h is sizes
+      (image_along (content s.image_a) (content t.image_a) files.image_a.items copied.image_a.items same.image_a (λ i. (shut.0 i).items) parts.image_a)
+      (older_along (content s.image_b) (content t.image_b) files.image_b.items copied.image_b.items same.image_b parts.image_b shut.1)
+      (λ i. (shut.2 i).items) parts.log_a (λ i. (shut.3 i).items) parts.log_b
+  copy_of Newest B same h is parts sizes shut =
+      copied_so Newest B same h is sizes
+      (older_along (content s.image_a) (content t.image_a) files.image_a.items copied.image_a.items same.image_a parts.image_a shut.0)
+      (image_along (content s.image_b) (content t.image_b) files.image_b.items copied.image_b.items same.image_b (λ i. (shut.1 i).items) parts.image_b)
+      (λ i. (shut.2 i).items) parts.log_a (λ i. (shut.3 i).items) parts.log_b

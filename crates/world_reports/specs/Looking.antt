@@ -3,26 +3,19 @@ use Rattle.std.specs.Prelude.{◌≡◌, ◌⊎◌, ℕ, List, ◌∷◌, Option
 use Rattle.disk_model.specs.declared.four_files.FourFiles.{FourFiles}
 use Rattle.world_reports.specs.Copying.{IsCopied}
 use Rattle.world_folder.specs.Fault.{Files, AreRead}
-use Rattle.world_folder.specs.History.{Act, Measured}
+use Rattle.world_folder.specs.History.{Act, Measured, AreInTurn}
 use Rattle.world_folder.specs.ReadIn.{AreReadIn}
 use Rattle.world_reports.specs.declared.copying.Images.TheVariants.{Both}
 use Rattle.world_reports.specs.declared.looking.Seen.{Seen}
 use Rattle.world_folder.specs.declared.world_file.WorldFile.{WorldFile}
-use Rattle.world_folder.specs.declared.world_file.WorldFile.TheVariants.{ImageA, ImageB, LogA, LogB}
 
 -- how long a file is, by its own name, if it can be looked at
 abbrev pub IsMeasured : (file : WorldFile) → Option ℕ → (before after : List Act) → Type 0
 IsMeasured file None before after = after ≡ before
 IsMeasured file (Some length) before after = after ≡ Measured file length ∷ before
 
-pub record AreMeasured (lengths : FourFiles (Option ℕ)) (before after : List Act) : Type 0 where
-  pub with_image_a : List Act
-  pub with_image_b : List Act
-  pub with_log_a : List Act
-  pub image_a : IsMeasured ImageA lengths.image_a before with_image_a
-  pub image_b : IsMeasured ImageB lengths.image_b with_image_a with_image_b
-  pub log_a : IsMeasured LogA lengths.log_a with_image_b with_log_a
-  pub log_b : IsMeasured LogB lengths.log_b with_log_a after
+abbrev pub AreMeasured : FourFiles (Option ℕ) → (before after : List Act) → Type 0
+AreMeasured lengths before after = AreInTurn IsMeasured lengths before after
 
 -- these lengths are known
 pub record AreKnown (lengths : FourFiles ℕ) (known : FourFiles (Option ℕ)) : Type 0 where

@@ -30,10 +30,8 @@ pub fn back_up<R: Files<File = File> + Clock + Print + Eprint + AllocGlobal>(
 {
     let mut from = SystemFolder::new(rt, folder);
     let mut into = SystemFolder::new(rt, to);
-    match copy_into(rt.alloc(), &mut from, folder, &mut into, to) {
-        Ok(_) => Ok(()),
-        Err(ending) => Err(ending),
-    }
+    copy_into(rt.alloc(), &mut from, folder, &mut into, to)?;
+    Ok(())
 }
 
 /// Copies the world of a folder into an empty one, and prints which world the copy holds. A server
@@ -57,10 +55,7 @@ pub fn copy_into<F: Folder, T: Folder>(
         Ok(copied) => copied,
         Err(reason) => return Err(reason.ending()),
     };
-    let read = match stands_in(alloc, &copied.files) {
-        Ok(read) => read,
-        Err(fault) => return Err(Ending::NoWorld(fault)),
-    };
+    let read = stands_in(alloc, &copied.files)?;
     let files = write_files(alloc, into, to, &copied.files, read.slot)?;
     let verified = verify(alloc, into, to, &read)?;
     warn_of_tries(into, copied.tries)?;

@@ -10,10 +10,7 @@ use crate::looks::{Alike, Before};
 use disk_model::FourFiles;
 use std::alloc::Global;
 use std::io;
-use world_actions::Refusal;
-use world_folder::{
-    Ending, Fault, Folder, Reading, Unreadable, WorldDisk, WorldFile, opened, path_of,
-};
+use world_folder::{Ending, Fault, Folder, Reading, WorldDisk, WorldFile, ending_for, opened};
 
 /// How often a copy is begun anew.
 const TRIES: u32 = 1_000;
@@ -123,7 +120,8 @@ fn copy_from<F: Folder>(
         }
         folder.pause();
     }
-    Err(NotCopied::Unsteady(unsteady(alloc, source.path)))
+    let ending = ending_for(alloc, "", source.path, io::Error::other(UNSTEADY));
+    Err(NotCopied::Unsteady(ending))
 }
 
 fn open_source<'a, F: Folder>(
@@ -196,18 +194,5 @@ fn try_copy<D: WorldDisk>(
     match Alike::of(within, after) {
         Some(alike) => Ok(Tried::Copied(alike)),
         None => Ok(Tried::Unsteady),
-    }
-}
-
-// How the program ends if no copy could be taken.
-fn unsteady(alloc: Global, folder: &str) -> Ending
-    ensures { IsFault result }
-{
-    match path_of(alloc, "", folder) {
-        Ok(path) => Ending::Unreadable(Unreadable {
-            path,
-            error: io::Error::other(UNSTEADY),
-        }),
-        Err(_) => Ending::Fault(Refusal::NoMemory),
     }
 }

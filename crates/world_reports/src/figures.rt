@@ -119,10 +119,7 @@ fn print_figures<F: Folder>(alloc: Global, folder: &mut F, path: &str) -> Result
         Ok(copied) => copied,
         Err(reason) => return Err(reason.ending()),
     };
-    let figures = match figures_of(alloc, &copied.files) {
-        Ok(figures) => figures,
-        Err(fault) => return Err(Ending::NoWorld(fault)),
-    };
+    let figures = figures_of(alloc, &copied.files)?;
     folder.print(figures)?;
     folder.print(Lengths(copied.lengths))?;
     Ok(())

@@ -1,8 +1,7 @@
 ghost use Rattle.std.specs.Prelude.{◌≡◌, Some, IsTrue, IfOk, IfErr, OnOk, string_bytes};
 ghost use Rattle.world_folder.specs.Ending.{IsFault};
-ghost use Rattle.world_reports.specs.Inspection.{IsFileLine, IsFileReport, AreFilesReported};
-ghost use Rattle.world_reports.specs.Inspection.{IsInspected, file_line_text, words_text};
-ghost use Rattle.world_reports.specs.Inspection.{words_printed};
+ghost use Rattle.world_reports.specs.Inspection.{IsFileLine, IsFileReport, IsInspected, words_text};
+ghost use Rattle.world_reports.specs.Inspection.{AreFilesReported, file_line_text, words_printed};
 
 use crate::counted::Counted;
 use crate::file_reports::{ImageReport, LogReport, report_image, report_log};

@@ -323,12 +323,11 @@ fn lengths_of<D: WorldDisk>(
     ensures fault { IfErr result IsFault }
 {
     let path = source.path;
-    let files = &mut source.files;
     Ok(FourFiles {
-        image_a: length_of(alloc, path, WorldFile::ImageA, &mut files.image_a)?,
-        image_b: length_of(alloc, path, WorldFile::ImageB, &mut files.image_b)?,
-        log_a: length_of(alloc, path, WorldFile::LogA, &mut files.log_a)?,
-        log_b: length_of(alloc, path, WorldFile::LogB, &mut files.log_b)?,
+        image_a: length_of(alloc, path, WorldFile::ImageA, &mut source.files.image_a)?,
+        image_b: length_of(alloc, path, WorldFile::ImageB, &mut source.files.image_b)?,
+        log_a: length_of(alloc, path, WorldFile::LogA, &mut source.files.log_a)?,
+        log_b: length_of(alloc, path, WorldFile::LogB, &mut source.files.log_b)?,
     })
 }
 

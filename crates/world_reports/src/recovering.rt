@@ -36,10 +36,7 @@ pub fn report_world<F: Folder>(alloc: Global, folder: &mut F, path: &str) -> Res
 {
     let seen = look_at_folder(alloc, folder, path)?;
     let files = all_read(alloc, path, seen.files)?;
-    let found = match stands_in(alloc, &files) {
-        Ok(found) => found,
-        Err(fault) => return Err(Ending::NoWorld(fault)),
-    };
+    let found = stands_in(alloc, &files)?;
     warn_of_doubt(folder, found.tick, &files)?;
     folder.print(RecoveredLine(WorldReport::of(&found)))?;
     Ok(())

@@ -34,10 +34,8 @@ pub fn salvage_world<R: Files<File = File> + Clock + Print + Eprint + AllocGloba
 {
     let mut from = SystemFolder::new(rt, folder);
     let mut into = SystemFolder::new(rt, to);
-    match salvage_into(rt.alloc(), &mut from, folder, &mut into, to) {
-        Ok(_) => Ok(()),
-        Err(ending) => Err(ending),
-    }
+    salvage_into(rt.alloc(), &mut from, folder, &mut into, to)?;
+    Ok(())
 }
 
 /// Makes a world in an empty folder of what can be read of the files of another one, in which

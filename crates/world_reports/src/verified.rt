@@ -9,8 +9,7 @@ use crate::recovering::found_in;
 use recovery::Recovered;
 use std::alloc::Global;
 use std::{fmt, io};
-use world_actions::Refusal;
-use world_folder::{Ending, Folder, Unreadable, WorldReport, path_of, read_folder};
+use world_folder::{Ending, Folder, WorldReport, ending_for, read_folder};
 
 /// Why what was written isn't reported as a world.
 const OTHER_WORLD: &str = "its files hold another world than was written into them";
@@ -62,7 +61,7 @@ pub fn verify<F: Folder>(
     let found = found_in(alloc, path, read)?;
     match Verified::of(written, &found) {
         Some(verified) => Ok(verified),
-        None => Err(other_world(alloc, path)),
+        None => Err(ending_for(alloc, "", path, io::Error::other(OTHER_WORLD))),
     }
 }
 
@@ -87,18 +86,5 @@ impl fmt::Display for SalvagedInto {
 
     fn fmt<W: fmt::Write>(&self, f: &mut fmt::Formatter<W>) -> fmt::Result {
         write!(f, "salvaged {}", self.0)
-    }
-}
-
-// How the program ends if another world was found.
-fn other_world(alloc: Global, folder: &str) -> Ending
-    ensures { IsFault result }
-{
-    match path_of(alloc, "", folder) {
-        Ok(path) => Ending::Unreadable(Unreadable {
-            path,
-            error: io::Error::other(OTHER_WORLD),
-        }),
-        Err(_) => Ending::Fault(Refusal::NoMemory),
     }
 }

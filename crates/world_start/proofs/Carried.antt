@@ -24,9 +24,10 @@ use Rattle.recovery.specs.Recovery.{Recovery, Recovers, recovery_of}
 use Rattle.restart.specs.Start.{has_round, started_keeper, is_shut}
 use Rattle.file_readers.specs.Reading.{AreFilesRead}
 use Rattle.world_start.specs.declared.engine.Engine.{Engine}
-use Rattle.world_start.specs.Steps.{Begins, StartLaws}
+use Rattle.world_start.specs.Steps.{Begins, StartLaws, ImagesInOrder, LogInOrder}
 use Rattle.world_start.specs.Opening.{AreRead}
 use Rattle.world_start.specs.Fresh.{AreClosed}
+use Rattle.world_start.proofs.Beginning.{images_order, log_order}
 
 -- ---- the gates
 
@@ -151,6 +152,21 @@ module _ {C D : Type 0} (content : C → Content) (file : D → List ℕ) (leave
 
   pub log_left : LogFits engine.log (file left.log_a) (file left.log_b)
   log_left = subst (λ a. LogFits engine.log a (file left.log_b)) (sym kept.log_a.same_content) (subst (λ b. LogFits engine.log (file files.log_a) b) (sym kept.log_b.same_content) b.log_fits)
+
+module _ {C D : Type 0} (content : C → Content) (file : D → List ℕ) (leaves : D → List ℕ → Type 0) (honest : Bool) (files left : FourFiles D)
+    (laws : StartLaws file leaves) (kept : IsTrue honest → EachFile files left (KeepsFile file leaves)) where
+  -- an engine at the beginning of its start is in order beside these files
+  pub begins_in_order : (cells : ℕ) (newest : Option (Slot × ℕ)) (tick : ℕ) (words ia ib la lb : List ℕ) (engine : Engine C) → 1 ≤ cells → cells ≤ CELLS → tick ≤ TICK_MAX
+      → length words ≡ cells → (IsTrue honest → AreFilesRead file files ia ib la lb) → (IsTrue honest → HoldsNewest cells newest (file files.image_a) (file files.image_b))
+      → Begins content cells newest tick words ia ib la lb engine → ImagesInOrder content file honest engine left × LogInOrder content file honest engine left
+  begins_in_order cells newest tick words ia ib la lb engine some few most all read holds b = (
+    images_order content file leaves honest cells newest tick words ia ib la lb engine left b all
+        (λ is. images_left content file leaves files left (kept is) cells newest tick words engine
+        (read_begins file files ia ib la lb (read is) content leaves laws cells newest tick words engine some few most b) (holds is)),
+    log_order content file leaves honest laws.queue cells newest tick words ia ib la lb engine left b most
+        (λ is. log_left content file leaves files left (kept is) cells newest tick words engine
+        (read_begins file files ia ib la lb (read is) content leaves laws cells newest tick words engine some few most b)),
+  )
 
 -- ---- the bytes of the files, or those that were read if the files don't keep to the disk model
 

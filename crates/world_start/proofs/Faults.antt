@@ -1,10 +1,9 @@
 -- A device that is reported as failed did fail.
-use Rattle.std.proofs.Common.{◌≡◌, ◌↔◌, ◌⊎◌, inl, inr, ℕ, ◌+◌, ◌<◌, ◌≤◌, min, Bool, true, false, List, ◌||◌, get_or, lit<, Option, Some, None, Result, Ok, Err, refl, sym, ap, subst, ◌∙◌, arith}
+use Rattle.std.proofs.Common.{◌≡◌, ◌↔◌, ◌⊎◌, inl, inr, ℕ, ◌+◌, ◌<◌, ◌≤◌, min, Bool, true, false, List, get_or, lit<, Option, Result, Ok, Err, refl, sym, ap, subst, ◌∙◌, arith}
 use Rattle.std.specs.Prelude.{if◌then◌else◌, IfErr, OnErr}
 use Rattle.std.proofs.lemmas.List.{get_or-set_same}
-use Rattle.world_actions.specs.declared.action.Action.{Action}
 use Rattle.world_actions.specs.declared.refusal.Refusal.{Refusal}
-use Rattle.world_actions.specs.declared.refusal.Refusal.TheVariants.{Device, NoMemory, BadImage, BadLog}
+use Rattle.world_actions.specs.declared.refusal.Refusal.TheVariants.{Device}
 use Rattle.file_format.specs.declared.slot.Slot.{Slot}
 use Rattle.file_format.specs.Slot.{of_slot}
 use Rattle.disk_model.specs.Disk.{last_count, Grew}
@@ -14,7 +13,6 @@ use Rattle.image_files.specs.declared.phase.Phase.{Phase}
 use Rattle.image_files.specs.declared.phase.Phase.TheVariants.{Closing, Header, Down}
 use Rattle.image_files.specs.declared.answer.ImageAnswer.{ImageAnswer}
 use Rattle.image_files.specs.declared.answer.ImageAnswer.TheVariants as image_answer
-use Rattle.image_files.specs.Image.{image_of}
 use Rattle.image_files.specs.Progress.{Progress as ImageProgress, moves_left, left_of, target_of, made_keeper}
 use Rattle.image_files.specs.Steps.{HasCause}
 use Rattle.action_log.specs.declared.record.Record.{Record}
@@ -22,8 +20,6 @@ use Rattle.action_log.specs.declared.progress.Progress.{Progress as LogProgress}
 use Rattle.action_log.specs.declared.answer.LogAnswer.{LogAnswer}
 use Rattle.action_log.specs.declared.answer.LogAnswer.TheVariants as log_answer
 use Rattle.action_log.specs.Progress.{rest_of, work_of, start_left}
-use Rattle.action_log.specs.Segment.{Segment}
-use Rattle.recovery.specs.Recovery.{is_bad_image, is_bad_segment, tail, Newest, newest, Recovery, words_after, recovery_with, recovery_from, Recovers}
 use Rattle.restart.specs.Start.{started_keeper}
 use Rattle.world_start.specs.Running.{RoundFaults, LogFaults}
 use Rattle.world_start.specs.Opening.{SomeGrew}
@@ -139,29 +135,7 @@ pub start_is_down : (keeper : LogProgress) (queue : List Record) → (keeper.dow
 start_is_down keeper queue (inl down) some = down
 start_is_down keeper queue (inr none) some = absurd (let most = at_most keeper.starting (rest_of keeper) in omega (arith, none, some, most))
 
--- ---- recovery never reports a device
-
-of_replay : (image : Newest) (ticks : List (List Action)) (r : Result (List ℕ) Refusal) → recovery_with image ticks r ≡ Err Device → ⊥
-of_replay image ticks (Ok words) e = absurd (let h = e in cc)
-of_replay image ticks (Err refusal) e = absurd (let h = e in cc)
-
-of_newest : (image : Option Newest) (log_a log_b : Segment) → recovery_from image log_a log_b ≡ Err Device → ⊥
-of_newest None log_a log_b e = absurd (let h = e in cc)
-of_newest (Some image) log_a log_b e = of_replay image (tail image.tick log_a log_b) (words_after image.words (tail image.tick log_a log_b)) e
-
-of_tests : (bad_image bad_log : Bool) (r : Result Recovery Refusal) → (r ≡ Err Device → ⊥) → (if bad_image then Err BadImage else (if bad_log then Err BadLog else r)) ≡ Err Device → ⊥
-of_tests true bad_log r not e = absurd (let h = e in cc)
-of_tests false true r not e = absurd (let h = e in cc)
-of_tests false false r not e = not e
-
-pub no_device : (image_a image_b log_a log_b : List ℕ) (refusal : Refusal) → Recovers image_a image_b log_a log_b (Err refusal) → refusal ≡ Device → ⊥
-no_device image_a image_b log_a log_b refusal found is =
-    of_tests (is_bad_image (image_of image_a) || is_bad_image (image_of image_b))
-    (is_bad_segment found.a || is_bad_segment found.b) (recovery_from (newest (image_of image_a) (image_of image_b)) found.a found.b)
-    (of_newest (newest (image_of image_a) (image_of image_b)) found.a found.b) (found.holds ∙ ap (λ (r : Refusal). Err r) is)
-
-pub no_memory : (refusal : Refusal) → refusal ≡ NoMemory → refusal ≡ Device → ⊥
-no_memory refusal memory device = (let h : NoMemory ≡ Device = sym memory ∙ device in absurd (let g = h in cc))
+-- ---- refusals
 
 -- if something holds for each refusal, it holds for a device's
 pub refused_device : {T : Type 0} (r : Result T Refusal) (P : Type 0) → OnErr r P → IfErr r (λ refusal. refusal ≡ Device → P)

@@ -194,6 +194,20 @@ module _ {C D : Type 0} (content : C → Content) (file : D → List ℕ) (leave
         ended = f.ended;
       }
 
+  -- an engine with another store and queue follows these ticks, by the same images and the same log
+  pub follows_anew : (s : Engine C) (store : C) (queue : Buffer Record) (ended since : ℕ) (files : FourFiles D) (first : List ℕ) (ticks more : List (List Action)) (acknowledged few count : ℕ)
+      → (f : Follows content file leaves s files first ticks acknowledged) → few ≤ count → InStep first more count (content store) f.images f.place.journal queue.items
+      → after_ticks first more ≡ Ok (content store).live → ended ≡ length more
+      → Follows content file leaves (record s { store = store; queue = queue; ended = ended; since = since }) files first more few
+  follows_anew s store queue ended since files first ticks more acknowledged few count f fewer in_step world is = record {
+    images = f.images;
+    cells = f.cells;
+    has_images = f.has_images;
+    log = record { place = f.place; stands = f.has_log; count = count; at_least = fewer; in_step = in_step };
+    world = world;
+    ended = is;
+  }
+
   -- the log has no work left
   pub all_follows : WorldsGoOn
       → ((keeper : LogProgress) (a b : D) (logs : Logs) (left : ℕ) → LogStands keeper (file a) (file b) (leaves a) (leaves b) (record { journal = Writing logs; left = left }) → keeper.phase ≡ Ready
@@ -208,18 +222,7 @@ module _ {C D : Type 0} (content : C → Content) (file : D → List ℕ) (leave
       let empty = subst (λ q. InStep first ticks f.count (content s.store) f.images (Writing logs.0) q) idle.1
       (subst (λ j. InStep first ticks f.count (content s.store) f.images j s.queue.items) logs.1 f.in_step) in
       let on = goes.all_acknowledged first ticks f.count (content s.store) f.images logs.0 is_ready.0 empty in
-      record {
-        images = f.images;
-        cells = f.cells;
-        has_images = f.has_images;
-        log = record {
-          place = f.place;
-          stands = f.has_log;
-          count = length ticks;
-          at_least = omega (arith, f.ended);
-          in_step = subst (λ j. InStep first ticks (length ticks) (content s.store) f.images j s.queue.items) (sym logs.1)
-              (subst (λ q. InStep first ticks (length ticks) (content s.store) f.images (Writing logs.0) q) (sym idle.1) on);
-        };
-        world = f.world;
-        ended = f.ended;
-      }
+      follows_anew s s.store s.queue s.ended s.since files first ticks ticks acknowledged s.ended (length ticks) f (omega (arith, f.ended))
+      (subst (λ j. InStep first ticks (length ticks) (content s.store) f.images j s.queue.items) (sym logs.1)
+      (subst (λ q. InStep first ticks (length ticks) (content s.store) f.images (Writing logs.0) q) (sym idle.1) on))
+      f.world f.ended

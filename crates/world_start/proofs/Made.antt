@@ -9,7 +9,6 @@ use Rattle.capture_core.specs.Content.{Content}
 use Rattle.disk_model.specs.FourFiles.{EachFile, KeepsFile}
 use Rattle.disk_model.specs.declared.four_files.FourFiles.{FourFiles}
 use Rattle.image_files.specs.Images.{ImageFiles, NoneYet, Newest}
-use Rattle.image_files.specs.Progress.{Progress as ImageProgress}
 use Rattle.action_log.specs.declared.progress.Progress.{Progress as LogProgress}
 use Rattle.action_log.specs.Segment.{ClosedSegment}
 use Rattle.recovery.specs.Sound.{IsSound, IsFresh}

@@ -1,6 +1,5 @@
 -- The files of a new world from which one is recovered are sound.
 use Rattle.std.proofs.Common.{◌≡◌, ℕ, List, [], Ok, refl, sym, subst, arith}
-use Rattle.world_actions.specs.declared.action.Action.{Action}
 use Rattle.file_format.specs.declared.slot.Slot.{Slot}
 use Rattle.file_format.specs.declared.slot.Slot.TheVariants.{A, B}
 use Rattle.image_files.specs.Image.{Image, Closed, Bad, Open}

@@ -27,6 +27,7 @@ use Rattle.world_start.specs.Opening.{AreSynced, AreSound, AreOfWorld, AreRead, 
 use Rattle.image_files.proofs.SlotImages.{by_slot, by_other}
 use Rattle.world_start.proofs.NewWorld.{new_reading}
 use Rattle.world_start.proofs.Beginning.{start_follows, built_live, started_newest}
+use Rattle.world_start.proofs.Sound.{reading_of}
 
 pub if_err : {T : Type 0} (r : Result T Refusal) (refusal : Refusal) (P : Refusal → Type 0) → IsErrAnd r (λ e. e ≡ refusal) → P refusal → IfErr r P
 if_err (Ok value) refusal P h p = tt
@@ -87,22 +88,9 @@ module _ {D : Type 0} (file : D → List ℕ) (leaves : D → List ℕ → Type 
             let s = sound a b la lb ha hb hla hlb in
             let at = recovers_on (Ok r) (sym (synced.image_a a ha)) (sym (synced.image_b b hb)) (sym (synced.log_a la hla)) (sym (synced.log_b lb hlb)) e in
             let is = recovers_once once a b la lb first ticks acknowledged r s at in
-            record {
-              a = s.a;
-              b = s.b;
-              reads_a = s.reads_a;
-              reads_b = s.reads_b;
-              holds = record {
-                recovery = s.holds.recovery;
-                stands = s.holds.stands;
-                keeps = subst (λ (k : Recovery). r.tick ≤ k.tick) (sym is) (omega arith);
-                world = s.holds.world;
-                image_a_holds = s.holds.image_a_holds;
-                image_b_holds = s.holds.image_b_holds;
-                log_a_begins = s.holds.log_a_begins;
-                log_b_begins = s.holds.log_b_begins;
-              };
-            },
+            let holds = reading_of (image_of a) (image_of b) s.a s.b first ticks ticks acknowledged r.tick s.holds
+            (subst (λ (k : Recovery). r.tick ≤ k.tick) (sym is) (omega arith)) (λ tick words w. w) (λ bound image h. h) in
+            record { a = s.a; b = s.b; reads_a = s.reads_a; reads_b = s.reads_b; holds = holds },
       )
 
 module _ {C D : Type 0} (content : C → Content) (file : D → List ℕ) (leaves : D → List ℕ → Type 0) where

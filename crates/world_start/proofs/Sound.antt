@@ -13,7 +13,8 @@ use Rattle.action_log.specs.declared.record.Record.{Record}
 use Rattle.action_log.specs.declared.progress.Progress.{Progress as LogProgress}
 use Rattle.action_log.specs.Logs.{Journal, JournalIs, LogPlace}
 use Rattle.action_log.specs.Stands.{Stands as LogStands}
-use Rattle.recovery.specs.Sound.{IsWorldAt, HoldsWorld, IsSound}
+use Rattle.action_log.specs.Segment.{Segment}
+use Rattle.recovery.specs.Sound.{IsWorldAt, HoldsWorld, IsSoundReading, IsSound}
 use Rattle.restart.specs.InStep.{InStep, IsSafe}
 use Rattle.world_start.specs.declared.engine.Engine.{Engine}
 use Rattle.world_start.specs.Running.{HasNewest}
@@ -33,28 +34,30 @@ holds_of_more first ticks most bound Closed h = h
 holds_of_more first ticks most bound Bad h = h
 holds_of_more first ticks most bound (Open tick words) h = (h.0, world_of_more first ticks most tick words h.1)
 
+-- the same reading of other ticks of which it holds the same worlds, if it keeps as many as are acknowledged
+pub reading_of : (image_a image_b : Image) (log_a log_b : Segment) (first : List ℕ) (ticks more : List (List Action)) (count acknowledged : ℕ)
+    (k : IsSoundReading image_a image_b log_a log_b first ticks count)
+    → acknowledged ≤ k.recovery.tick → ((tick : ℕ) (words : List ℕ) → IsWorldAt first ticks tick words → IsWorldAt first more tick words)
+    → ((bound : ℕ) (image : Image) → HoldsWorld first ticks bound image → HoldsWorld first more bound image) → IsSoundReading image_a image_b log_a log_b first more acknowledged
+reading_of image_a image_b log_a log_b first ticks more count acknowledged k keeps worlds holds = record {
+  recovery = k.recovery;
+  stands = k.stands;
+  keeps = keeps;
+  world = worlds k.recovery.tick k.recovery.words k.world;
+  image_a_holds = holds k.recovery.tick image_a k.image_a_holds;
+  image_b_holds = holds k.recovery.tick image_b k.image_b_holds;
+  log_a_begins = k.log_a_begins;
+  log_b_begins = k.log_b_begins;
+}
+
 -- files that are sound for the first ticks, and acknowledge as many, are sound for all of them
 pub sound_of_more : (a b la lb : List ℕ → Type 0) (first : List ℕ) (ticks : List (List Action)) (most acknowledged count : ℕ)
     → acknowledged ≤ count → IsSound a b la lb first (take most ticks) count → IsSound a b la lb first ticks acknowledged
 sound_of_more a b la lb first ticks most acknowledged count fewer s x y z w hx hy hz hw =
     let r = s x y z w hx hy hz hw in
-    let k = r.holds in
-    record {
-      a = r.a;
-      b = r.b;
-      reads_a = r.reads_a;
-      reads_b = r.reads_b;
-      holds = record {
-        recovery = k.recovery;
-        stands = k.stands;
-        keeps = omega (arith, fewer, k.keeps);
-        world = world_of_more first ticks most k.recovery.tick k.recovery.words k.world;
-        image_a_holds = holds_of_more first ticks most k.recovery.tick (image_of x) k.image_a_holds;
-        image_b_holds = holds_of_more first ticks most k.recovery.tick (image_of y) k.image_b_holds;
-        log_a_begins = k.log_a_begins;
-        log_b_begins = k.log_b_begins;
-      };
-    }
+    let holds = reading_of (image_of x) (image_of y) r.a r.b first (take most ticks) ticks count acknowledged r.holds
+    (omega (arith, fewer, r.holds.keeps)) (world_of_more first ticks most) (holds_of_more first ticks most) in
+    record { a = r.a; b = r.b; reads_a = r.reads_a; reads_b = r.reads_b; holds = holds }
 
 -- ---- of a world that is followed
 

@@ -1,4 +1,4 @@
-use Rattle.std.proofs.Common.{◌≡◌, List, ℕ, length, subst, rules}
+use Rattle.std.proofs.Common.{◌≡◌, length, subst, rules}
 use Rattle.action_log.specs.declared.reader.HeldLog.{HeldLog}
 use Rattle.action_log.specs.Segment.{IsSegment, IsOpenSegment}
 use Rattle.action_log.specs.HeldLog.{IsHeld, segment_held, ticks_in}

@@ -1,45 +1,42 @@
+use Rattle.std.specs.Prelude.{IfOk}
 use Rattle.std.proofs.Common.{None, Err, refl, ap, ◌∙◌, arith, length}
 use Rattle.std.proofs.lemmas.List.{length-replicate}
 use Rattle.world_start.specs.Steps.{IsBegunFresh, ImagesInOrder, LogInOrder}
 use Rattle.world_start.specs.Opening.{HasFaulted}
-use Rattle.world_start.proofs.Beginning.{images_order, log_order}
-use Rattle.world_start.proofs.Carried.{read_begins, read_closed, images_left, log_left}
+use Rattle.world_start.proofs.Carried.{read_begins, read_closed, begins_in_order}
 use Rattle.world_start.proofs.Faults.{some_of_one}
 use Rattle.world_start.proofs.Made.{if_ok, fresh_begun}
 use Rattle.world_start.proofs.Recovered.{if_err}
 use Rattle.world_start.proofs.fresh.begin_fresh.Goals as goal
+use Rattle.world_start.proofs.fresh.begin_fresh.Goals.{After-begin}
 
 pub returns-in_err-bytes-clause-device : goal.returns-in_err-bytes-clause-device
 returns-in_err-bytes-clause-device g c =
     if_err c.from_residual.result c.in_err-bytes.field-0.0 (HasFaulted g.D.Disk.faults c.args.files.now c.read_files.new.files) c.from_residual.ensures.1
     (λ device. some_of_one _ _ (c.in_err-bytes.ensures.fault (ap (λ r. Err r) device)))
 
+-- the engine is in order
+in_order : (g : _) (c : After-begin g) → IfOk c.begin.result (λ engine.
+    ImagesInOrder g.C.Capture.content g.D.Disk.content g.D.Disk.honest engine c.read_files.new.files × LogInOrder g.C.Capture.content g.D.Disk.content g.D.Disk.honest engine c.read_files.new.files)
+in_order g c =
+    let bytes = c.in_ok-bytes.bytes in
+    if_ok c.begin.result _ (λ engine.
+    ImagesInOrder g.C.Capture.content g.D.Disk.content g.D.Disk.honest engine c.read_files.new.files × LogInOrder g.C.Capture.content g.D.Disk.content g.D.Disk.honest engine c.read_files.new.files)
+    (λ engine begun.
+    begins_in_order g.C.Capture.content g.D.Disk.content g.D.Disk.may_leave g.D.Disk.honest c.args.files.now c.read_files.new.files c.starts_begin.ensures c.read_files.ensures.kept
+    c.args.cells None 0 c.deref.result.now bytes.image_a.items bytes.image_b.items bytes.log_a.items bytes.log_b.items engine c.requires.0 c.requires.1 (omega arith)
+    (ap length (c.deref.ensures.value ∙ c.in_ok-words.ensures.zeros) ∙ length-replicate c.args.cells 0) c.in_ok-bytes.ensures.read (λ honest. tt) begun)
+    c.begin.ensures.begins
+
 pub returns-clause-images : goal.returns-clause-images
 returns-clause-images g c =
-    let bytes = c.in_ok-bytes.bytes in
-    let words = c.deref.result.now in
     if_ok c.begin.result _ (λ engine. ImagesInOrder g.C.Capture.content g.D.Disk.content g.D.Disk.honest engine c.read_files.new.files)
-    (λ engine begun.
-    images_order g.C.Capture.content g.D.Disk.content g.D.Disk.may_leave g.D.Disk.honest c.args.cells None 0 words
-    bytes.image_a.items bytes.image_b.items bytes.log_a.items bytes.log_b.items engine c.read_files.new.files begun
-    (ap length (c.deref.ensures.value ∙ c.in_ok-words.ensures.zeros) ∙ length-replicate c.args.cells 0)
-    (λ honest. images_left g.C.Capture.content g.D.Disk.content g.D.Disk.may_leave c.args.files.now c.read_files.new.files (c.read_files.ensures.kept honest) c.args.cells None 0 words engine
-    (read_begins g.D.Disk.content c.args.files.now bytes.image_a.items bytes.image_b.items bytes.log_a.items bytes.log_b.items
-    (c.in_ok-bytes.ensures.read honest) g.C.Capture.content g.D.Disk.may_leave c.starts_begin.ensures c.args.cells None 0 words engine c.requires.0 c.requires.1 (omega arith) begun) tt))
-    c.begin.ensures.begins
+    (λ engine order. order.0) (in_order g (goal.at.returns-clause-images g c).After-begin)
 
 pub returns-clause-log : goal.returns-clause-log
 returns-clause-log g c =
-    let bytes = c.in_ok-bytes.bytes in
-    let words = c.deref.result.now in
     if_ok c.begin.result _ (λ engine. LogInOrder g.C.Capture.content g.D.Disk.content g.D.Disk.honest engine c.read_files.new.files)
-    (λ engine begun.
-    log_order g.C.Capture.content g.D.Disk.content g.D.Disk.may_leave g.D.Disk.honest c.starts_begin.ensures.queue c.args.cells
-    None 0 words bytes.image_a.items bytes.image_b.items bytes.log_a.items bytes.log_b.items engine c.read_files.new.files begun (omega arith)
-    (λ honest. log_left g.C.Capture.content g.D.Disk.content g.D.Disk.may_leave c.args.files.now c.read_files.new.files (c.read_files.ensures.kept honest) c.args.cells None 0 words engine
-    (read_begins g.D.Disk.content c.args.files.now bytes.image_a.items bytes.image_b.items bytes.log_a.items bytes.log_b.items
-    (c.in_ok-bytes.ensures.read honest) g.C.Capture.content g.D.Disk.may_leave c.starts_begin.ensures c.args.cells None 0 words engine c.requires.0 c.requires.1 (omega arith) begun)))
-    c.begin.ensures.begins
+    (λ engine order. order.1) (in_order g (goal.at.returns-clause-log g c).After-begin)
 
 pub returns-clause-begun : goal.returns-clause-begun
 returns-clause-begun g c = λ honest.

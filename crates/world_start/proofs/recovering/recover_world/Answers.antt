@@ -7,8 +7,8 @@ use Rattle.restart.specs.Start.{is_shut}
 use Rattle.world_start.specs.Opening.{HasFaulted, IsRefused}
 use Rattle.recovery.specs.Recovered.{recovery_of_answer}
 use Rattle.world_start.proofs.Recovered.{if_err, recovers_on, holds_newest, is_read}
-use Rattle.world_start.proofs.Beginning.{images_order, log_order, built_live}
-use Rattle.world_start.proofs.Carried.{read_recovers, read_begins, images_left, log_left, chosen}
+use Rattle.world_start.proofs.Beginning.{built_live}
+use Rattle.world_start.proofs.Carried.{read_recovers, read_begins, begins_in_order, chosen}
 use Rattle.world_start.proofs.Faults.{images_up, some_of_one}
 use Rattle.world_start.proofs.recovering.recover_world.Goals as goal
 
@@ -36,9 +36,7 @@ returns-clause-ahead g c =
     let bytes = c.in_ok-bytes.bytes in
     let begins = c.in_ok-engine.ensures.begins in
     let content = g.D.Disk.content in
-    let leaves = g.D.Disk.may_leave in
     let files = c.args.files.now in
-    let left = c.read_files.new.files in
     let cells = c.len-cells.result in
     let words = c.deref-5.result.now in
     let engine = c.in_ok-engine.engine in
@@ -46,27 +44,17 @@ returns-clause-ahead g c =
     let world = c.in_ok-found.ensures.world in
     let all : length words ≡ cells = c.deref-5.ensures.len ∙ sym c.len-cells.ensures in
     let same : length found.words.items ≡ cells = ap length (sym c.deref-5.ensures.value) ∙ all in
-    let some : 1 ≤ cells = omega (arith, same, world.some) in
-    let few : cells ≤ CELLS = omega (arith, same, world.most) in
     let recovered = recovers_on (Ok (recovery_of_answer found)) c.deref.ensures.value c.deref-2.ensures.value c.deref-3.ensures.value c.deref-4.ensures.value c.in_ok-found.ensures.recovered in
+    let order =
+    begins_in_order g.C.Capture.content content g.D.Disk.may_leave g.D.Disk.honest files c.read_files.new.files c.starts_begin.ensures c.read_files.ensures.kept
+    cells newest found.tick words bytes.image_a.items bytes.image_b.items bytes.log_a.items bytes.log_b.items engine
+    (omega (arith, same, world.some)) (omega (arith, same, world.most)) c.in_ok-found.ensures.numbers.1 all c.in_ok-bytes.ensures.read
+    (λ honest. holds_newest c.crash_restarts.ensures cells (recovery_of_answer found) (content files.image_a) (content files.image_b) (content files.log_a) (content files.log_b) same
+    (read_recovers content files bytes.image_a.items bytes.image_b.items bytes.log_a.items bytes.log_b.items
+    (c.in_ok-bytes.ensures.read honest) (Ok (recovery_of_answer found)) recovered)) begins in
     record {
-      images =
-          images_order g.C.Capture.content content leaves g.D.Disk.honest cells newest found.tick words bytes.image_a.items
-          bytes.image_b.items bytes.log_a.items bytes.log_b.items engine left begins all
-          (λ honest. (
-          let read = c.in_ok-bytes.ensures.read honest in
-          let begun = read_begins content files bytes.image_a.items bytes.image_b.items bytes.log_a.items bytes.log_b.items read
-          g.C.Capture.content leaves c.starts_begin.ensures cells newest found.tick words engine some few c.in_ok-found.ensures.numbers.1 begins in
-          images_left g.C.Capture.content content leaves files left (c.read_files.ensures.kept honest) cells newest found.tick words engine begun
-          (holds_newest c.crash_restarts.ensures cells (recovery_of_answer found) (content files.image_a) (content files.image_b) (content files.log_a) (content files.log_b) same
-          (read_recovers content files bytes.image_a.items bytes.image_b.items bytes.log_a.items bytes.log_b.items read (Ok (recovery_of_answer found)) recovered))));
-      log =
-          log_order g.C.Capture.content content leaves g.D.Disk.honest c.starts_begin.ensures.queue cells newest found.tick words
-          bytes.image_a.items bytes.image_b.items bytes.log_a.items bytes.log_b.items engine left begins c.in_ok-found.ensures.numbers.1
-          (λ honest. (
-          let begun = read_begins content files bytes.image_a.items bytes.image_b.items bytes.log_a.items bytes.log_b.items
-          (c.in_ok-bytes.ensures.read honest) g.C.Capture.content leaves c.starts_begin.ensures cells newest found.tick words engine some few c.in_ok-found.ensures.numbers.1 begins in
-          log_left g.C.Capture.content content leaves files left (c.read_files.ensures.kept honest) cells newest found.tick words engine begun));
+      images = order.0;
+      log = order.1;
       up = (
         λ down. images_up (nat_lt found.from found.tick) found.tick cells newest (is_shut bytes.image_a.items)
             (is_shut bytes.image_b.items) (ap (λ (k : ImageProgress). k.phase) (sym begins.images) ∙ down),
@@ -109,19 +97,11 @@ returns-clause-recovered g c =
     let found = c.in_ok-found.found in
     let bytes = c.in_ok-bytes.bytes in
     let b = c.in_ok-engine.ensures.begins in
-    let of_bytes = chosen g.D.Disk.content g.D.Disk.honest c.args.files.now (Ok (recovery_of_answer found)) bytes.image_a.items bytes.image_b.items bytes.log_a.items bytes.log_b.items
+    let held = chosen g.D.Disk.content g.D.Disk.honest c.args.files.now (Ok (recovery_of_answer found)) bytes.image_a.items bytes.image_b.items bytes.log_a.items bytes.log_b.items
     (recovers_on (Ok (recovery_of_answer found)) c.deref.ensures.value c.deref-2.ensures.value c.deref-3.ensures.value
     c.deref-4.ensures.value c.in_ok-found.ensures.recovered) c.in_ok-bytes.ensures.read in
     record {
-      bytes = record {
-        image_a = of_bytes.image_a;
-        image_b = of_bytes.image_b;
-        log_a = of_bytes.log_a;
-        log_b = of_bytes.log_b;
-        recovery = recovery_of_answer found;
-        recovers = of_bytes.recovers;
-        read = of_bytes.read;
-      };
+      bytes = record { image_a = held.image_a; image_b = held.image_b; log_a = held.log_a; log_b = held.log_b; recovery = recovery_of_answer found; recovers = held.recovers; read = held.read };
       tick_is = b.ended;
       from_is = refl;
       words = built_live c.deref-5.result.now (nat_lt found.from found.tick) (g.C.Capture.content c.in_ok-engine.engine.store) b.store ∙ c.deref-5.ensures.value;
