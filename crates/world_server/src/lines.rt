@@ -8,7 +8,7 @@ use crate::printer::Printer;
 use crate::standing::{Standing, have_passed};
 use client_service::{Door, Pulse, Unserved};
 use disk_model::FourFiles;
-use file_disk::FileDisk;
+use file_disk::{FileDisk, Pace};
 use std::alloc::{AllocError, Global};
 use std::io;
 use std::net::Net;
@@ -37,6 +37,8 @@ pub struct Lines<R: Wait + Clock + Net + Copy> {
     pub closed_at: Option<Instant>,
     /// The counts of the server, if its figures are printed.
     pub pulse: Option<Arc<Pulse, Global>>,
+    /// The pace of the image files.
+    pub pace: Pace,
 }
 
 impl<R: Wait + Clock + Net + Copy> Clone for Lines<R> {
@@ -55,6 +57,7 @@ impl<R: Wait + Clock + Net + Copy> Clone for Lines<R> {
                 Some(pulse) => Some(pulse.clone()?),
                 None => None,
             },
+            pace: self.pace.clone()?,
         })
     }
 }
@@ -99,6 +102,7 @@ impl<R: Wait + Clock + Net + Copy> Lines<R> {
 
 impl<R: Wait + Clock + Net + Copy> TickWatch for Lines<R> {
     fn ticks_ended(&mut self, ticks: u64) {
+        self.pace.ticks_ended(ticks);
         if let Some(pulse) = &self.pulse {
             pulse.ticks_ended(ticks);
         }

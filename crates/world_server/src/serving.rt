@@ -9,7 +9,7 @@ use crate::served::{Served, WorldFailure, serve_world};
 use crate::service::Service;
 use crate::system_front::SystemFront;
 use disk_model::FourFiles;
-use file_disk::FileDisk;
+use file_disk::{FileDisk, Pace};
 use file_readers::read_files;
 use shared_capture::{Kind, Method, Pong, Zig};
 use std::alloc::Global;
@@ -45,8 +45,9 @@ fn serve_by<
     ensures ok { IfOk result EndsServing }
     ensures err { IfErr result IsFault }
 {
-    let files = open_existing(rt, service.folder)?;
-    let mut front = SystemFront::start(rt, service)?;
+    let mut files = open_existing(rt, service.folder)?;
+    let pace = pace_images(rt.alloc(), &mut files)?;
+    let mut front = SystemFront::start(rt, service, pace)?;
     let (every, admission) = (service.due_after(), service.admission());
     let served = serve_world::<R, M, FileDisk, Lines<R>, SystemFront<'_, R>>(
         rt,
@@ -58,6 +59,17 @@ fn serve_by<
     );
     let ending = ending_of(rt.alloc(), service.folder, served);
     Ok(front.finish(ending))
+}
+
+// Paces both image files, and returns their pace.
+fn pace_images(alloc: Global, files: &mut FourFiles<FileDisk>) -> Result<Pace, Ending>
+    ensures same { files.new ≡ files.old }
+    ensures fault { IfErr result IsFault }
+{
+    let pace = Pace::new(alloc)?;
+    files.image_a.pace(pace.clone()?);
+    files.image_b.pace(pace.clone()?);
+    Ok(pace)
 }
 
 // How the program ends after its world was served, or wasn't.

@@ -17,7 +17,7 @@ use crate::streams::Streams;
 use client_service::Pulse;
 use crossbeam_channel::Sender;
 use disk_model::Disk;
-use file_disk::FileDisk;
+use file_disk::{FileDisk, Pace};
 use shared_capture::Method;
 use std::alloc::Global;
 use std::fs::{File, Files};
@@ -43,14 +43,16 @@ pub struct SystemFront<'a, R: Wait + Clock + Net + Files + Copy> {
     /// Takes the counts of the server, if its figures are printed.
     reports: Option<Sender<Arc<Pulse, Global>>>,
     place: Option<Arc<Place, Global>>,
+    /// The pace of the image files.
+    pace: Pace,
 }
 
 impl<
     'a,
     R: Runtime + Net<Listener = TcpListener, Stream = TcpStream> + Copy + Send + 'static,
 > SystemFront<'a, R> {
-    /// Starts the threads of the streams.
-    pub fn start(rt: &R, service: &Service<'a>) -> Result<Self, Ending>
+    /// Starts the threads of the streams. The image files are paced by the ticks of the world.
+    pub fn start(rt: &R, service: &Service<'a>, pace: Pace) -> Result<Self, Ending>
         ensures { IfErr result IsFault }
     {
         let Ok(standing) = Arc::new(rt.alloc(), Standing::new()) else {
@@ -68,6 +70,7 @@ impl<
                 standing,
                 reports,
                 place: None,
+                pace,
             }),
             Err(ending) => Err(streams.finish(rt, ending)),
         }
@@ -88,6 +91,7 @@ impl<
             standing: _,
             reports: _,
             place,
+            pace: _,
         } = self;
         if let Some(place) = place {
             place.leave(&rt);
@@ -158,6 +162,7 @@ fn lines_of<R: Wait + Clock + Net + Files + AllocGlobal + Copy, M: Method>(
         exit_when_closed: front.service.exit_when_closed,
         closed_at: None,
         pulse,
+        pace: front.pace.clone()?,
     })
 }
 
