@@ -42,17 +42,17 @@ content_of store = record {
   left = drop store.taken (previous_entries store);
 }
 
+-- an array of so many cells, each with a word and a dirty mark
+abbrev pub IsArray : ℕ → List ℕ → List Bool → Type 0
+IsArray cells words dirty = (length words ≡ cells) × (length dirty ≡ cells) × All IsWord words
+
 -- the facts that hold for every store; a dirty entry of the current array has the live word, and a
 -- taken entry is clean
 pub record IsInOrder (store : Arrays) : Type 0 where
-  pub current_words_length : length store.current_words ≡ length store.live
-  pub current_dirty_length : length store.current_dirty ≡ length store.live
-  pub previous_words_length : length store.previous_words ≡ length store.live
-  pub previous_dirty_length : length store.previous_dirty ≡ length store.live
+  pub current_array : IsArray (length store.live) store.current_words store.current_dirty
+  pub previous_array : IsArray (length store.live) store.previous_words store.previous_dirty
   pub taken_most : store.taken ≤ length store.live
   pub live_words : All IsWord store.live
-  pub previous_are_words : All IsWord store.previous_words
-  pub current_are_words : All IsWord store.current_words
   pub current : dirty_words store.current_dirty store.current_words
       ≡ dirty_words store.current_dirty store.live
   pub clean : take store.taken store.previous_dirty ≡ replicate store.taken false
