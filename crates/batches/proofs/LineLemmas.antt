@@ -91,9 +91,6 @@ batches_after meanings others ended whole =
     ∙ (ap (λ (b : Batches). added b.ended b.rest (batches_of others).ended (batches_of others).rest) whole
     ∙ added_whole ended (batches_of others).ended (batches_of others).rest)
 
-one_line : (meaning : Option Command) → batches_of (meaning ∷ []) ≡ onto (request_of meaning) (record { ended = []; rest = [] })
-one_line meaning = refl
-
 -- a request after requests
 pub batches_more : (meanings : List (Option Command)) (meaning : Option Command) (requests : List Request) (request : Request)
     → batches_of meanings ≡ record { ended = []; rest = requests } → request_of meaning ≡ Some request

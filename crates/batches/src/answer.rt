@@ -6,11 +6,11 @@ ghost use Rattle.world_ticks.specs.declared.tick.TheConstants.{TICK_ACTIONS};
 ghost use Rattle.world_ticks.specs.After.{after_actions, accepted_writes};
 ghost use Rattle.world_ticks.specs.Cells.{Performs};
 ghost use Rattle.batches.specs.declared.batch.Request.{Request as Asked};
-ghost use Rattle.batches.specs.Answer.{Play, begun, reply, replies, after_request, after_requests};
-ghost use Rattle.batches.specs.Answer.{writes_by, answer, accepted_of, words_after};
+ghost use Rattle.batches.specs.Answer.{begun, text_of, replies, after_requests, answer};
+ghost use Rattle.batches.specs.Answer.{accepted_of, words_after};
 
-use crate::batch::{Batch, Request};
-use crate::requests::run_request;
+use crate::batch::Batch;
+use crate::requests::{Answer, run_request};
 use crate::text::{put, put_answer, put_number};
 use world_actions::Refusal;
 use world_ticks::{Cells, TICK_ACTIONS, Tick};
@@ -48,7 +48,7 @@ pub fn answer_text<C: Cells>(
     put_number(text, number);
     put(text, b":");
     for request in requests {
-        put_reply(c, t, *request, text);
+        put_reply(text, run_request(c, t, *request));
     }
     put(text, b"\n");
     Ok(())
@@ -62,22 +62,13 @@ pub fn answers_are_ticks()
         → length (accepted_of requests words) ≤ TICK_ACTIONS }
 {}
 
-// Runs a request, and appends a space and the text of its answer.
-fn put_reply<C: Cells>(c: &mut C, t: &mut Tick, request: Request, text: &mut Vec<u8>)
-    requires tick_room { t.old.room ≡ 0 → TICK_ACTIONS ≤ length t.old.list }
-    requires text_room { length text.old.items + REPLY_BYTES ≤ vec_capacity text.old }
-    ensures text { text.new.items ≡ text.old.items
-        ++ (32 ∷ reply (record { words = C.words c.old; accepted = t.old.list }) request) }
+// Appends a space and the text of an answer, for which there is room.
+fn put_reply(text: &mut Vec<u8>, given: Answer)
+    requires { length text.old.items + REPLY_BYTES ≤ vec_capacity text.old }
+    ensures text { text.new.items ≡ text.old.items ++ (32 ∷ text_of given) }
     ensures few { length text.new.items ≤ length text.old.items + REPLY_BYTES }
     ensures room { vec_capacity text.old ≤ vec_capacity text.new }
-    ensures after { record { words = C.words c.new; accepted = t.new.list }
-        ≡ after_request (record { words = C.words c.old; accepted = t.old.list }) request }
-    ensures writes { Performs C.accessed c.old
-        (writes_by (record { words = C.words c.old; accepted = t.old.list }) request) c.new }
-    ensures tick_room { t.old.room + length t.old.list ≤ t.new.room + length t.new.list }
-    ensures one { length t.new.list ≤ length t.old.list + 1 }
 {
-    let answer = run_request(c, t, request);
     put(text, b" ");
-    put_answer(text, answer);
+    put_answer(text, given);
 }
