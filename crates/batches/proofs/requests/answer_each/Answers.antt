@@ -19,7 +19,8 @@ loop-request-preserved g c =
     record {
       run = has_run_next _ _ _ requests i first _ _ _ _ c.loop-request-test.true inv.run did.after did.writes did.tick_room did.one;
       given = rw (add-one) (items ∙ (ap (λ (l : List Answer). l ++ c.run_request.result ∷ []) inv.given ∙ (ap (λ (a : Answer). before ++ a ∷ []) did.answer
-          ∙ (ap (λ (p : Play). before ++ answer_of p (get_or requests i first) ∷ []) inv.run.now ∙ sym (answers_next (begun (g.C.Cells.words c.args.c.now)) requests i first c.loop-request-test.true)))));
+          ∙ (ap (λ (p : Play). before ++ answer_of p (get_or requests i first) ∷ []) inv.run.now
+          ∙ sym (answers_next (begun (g.C.Cells.words c.args.c.now)) requests i first c.loop-request-test.true)))));
       count = (let n = inv.count in omega (arith, simp length-append at (ap length items), n));
       room = (let e = c.push_reserved.ensures.capacity in let n = inv.room in omega (arith, e, n));
     }
