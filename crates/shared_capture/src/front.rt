@@ -66,12 +66,7 @@ impl<M: Method> Cells for Front<M> {
         self.live.len()
     }
 
-    fn read(&mut self, i: usize) -> u64
-        requires { i < length self.old.live }
-        ensures word { result ≡ slice_index self.old.live i }
-        ensures limit { IsWord result }
-        ensures unchanged { self.new ≡ self.old }
-    {
+    fn read(&mut self, i: usize) -> u64 {
         self.live[i]
     }
 
