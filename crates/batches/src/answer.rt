@@ -1,13 +1,9 @@
-ghost use Rattle.std.specs.Prelude.{◌≡◌, ◌≢◌, ◌+◌, ◌*◌, ◌≤◌, ◌<◌, ◌++◌, ◌∷◌, [], ℕ, List, length};
-ghost use Rattle.std.specs.Prelude.{min, vec_capacity, decimal, codes, Ok, Err, IsOk, OnOk, OnErr};
-ghost use Rattle.std.specs.Prelude.{IfOk, IfErr};
-ghost use Rattle.world_actions.specs.Effect.{Write};
+ghost use Rattle.std.specs.Prelude.{◌≡◌, ◌+◌, ◌≤◌, ◌++◌, ◌∷◌, [], ℕ, List, length, vec_capacity};
+ghost use Rattle.std.specs.Prelude.{Ok, OnOk, OnErr, IfErr};
 ghost use Rattle.world_ticks.specs.declared.tick.TheConstants.{TICK_ACTIONS};
-ghost use Rattle.world_ticks.specs.After.{after_actions, accepted_writes};
-ghost use Rattle.world_ticks.specs.Cells.{Performs};
+ghost use Rattle.world_ticks.specs.After.{after_actions};
 ghost use Rattle.batches.specs.declared.batch.Request.{Request as Asked};
-ghost use Rattle.batches.specs.Answer.{begun, text_of, replies, after_requests, answer};
-ghost use Rattle.batches.specs.Answer.{accepted_of, words_after};
+ghost use Rattle.batches.specs.Answer.{text_of, answer, accepted_of, words_after, PerformsBatch};
 
 use crate::batch::Batch;
 use crate::requests::{Answer, run_request};
@@ -35,8 +31,7 @@ pub fn answer_text<C: Cells>(
     ensures text { OnOk result (text.new.items ≡ answer b.now.list (C.words c.old) number) }
     ensures tick { OnOk result (t.new.list ≡ accepted_of b.now.list (C.words c.old)) }
     ensures words { OnOk result (C.words c.new ≡ words_after b.now.list (C.words c.old)) }
-    ensures writes { OnOk result (Performs C.accessed c.old
-        (accepted_writes (C.words c.old) (accepted_of b.now.list (C.words c.old))) c.new) }
+    ensures writes { OnOk result (PerformsBatch C.words C.accessed c.old b.now.list c.new) }
     ensures memory { IfErr result (λ refusal. refusal ≡ Refusal.NoMemory) }
     ensures unchanged { OnErr result ((c.new ≡ c.old) × (t.new ≡ t.old)) }
 {
