@@ -1,29 +1,24 @@
 -- Lines of an input, and their batches.
-use Rattle.std.proofs.Common.{arith, refl, ap, sym, ◌∙◌, ◌≡◌, ◌≢◌, ℕ, List, [], ◌∷◌, ◌++◌, append_assoc, append-nil, Option, Some, None}
+use Rattle.std.proofs.Common.{arith, refl, ap, sym, ◌∙◌, ◌≡◌, ℕ, List, [], ◌∷◌, ◌++◌, append_assoc, append-nil, Option, Some, None}
 use Rattle.std.proofs.lemmas.Bool.Decides.{nat_tests}
 use Rattle.line_grammar.specs.declared.command.Command.{Command}
 use Rattle.line_grammar.specs.Command.{Means}
-use Rattle.batches.specs.Batch.{onto_line, ended_lines, MeanAll, Batches, request_of, onto, batches_of}
+use Rattle.batches.specs.Batch.{ended_lines, MeanAll, Batches, request_of, onto, batches_of}
 use Rattle.batches.specs.declared.batch.Request.{Request}
 use Rattle.line_grammar.specs.Kept.{HasNoNewline}
 use Rattle.batches.specs.Reading.{AreLines}
 
 -- ---- one line
 
--- a byte that is no newline belongs to the first line
-other_first : (b : ℕ) (bytes : List ℕ) → b ≢ 10 → ended_lines (b ∷ bytes) ≡ onto_line b (ended_lines bytes)
-other_first b bytes other = grind (arith, nat_tests)
-
 -- the first line ends at its newline
 pub ended_lines-line : (line bytes : List ℕ) → HasNoNewline line → ended_lines (line ++ (10 ∷ bytes)) ≡ line ∷ ended_lines bytes
 ended_lines-line [] bytes unbroken = refl
-ended_lines-line (b ∷ line) bytes unbroken =
-    rw (other_first b (line ++ (10 ∷ bytes)) unbroken.0, ended_lines-line line bytes unbroken.1) refl
+ended_lines-line (b ∷ line) bytes unbroken = (let other = unbroken.0 in let rest = ended_lines-line line bytes unbroken.1 in grind (arith, nat_tests))
 
 -- a line with no newline has not ended
 pub ended_lines-none : (line : List ℕ) → HasNoNewline line → ended_lines line ≡ []
 ended_lines-none [] unbroken = refl
-ended_lines-none (b ∷ line) unbroken = rw (other_first b line unbroken.0, ended_lines-none line unbroken.1) refl
+ended_lines-none (b ∷ line) unbroken = (let other = unbroken.0 in let rest = ended_lines-none line unbroken.1 in grind (arith, nat_tests))
 
 -- ---- several lines
 
@@ -90,9 +85,6 @@ batches_after meanings others ended whole =
     batches_append meanings others
     ∙ (ap (λ (b : Batches). added b.ended b.rest (batches_of others).ended (batches_of others).rest) whole
     ∙ added_whole ended (batches_of others).ended (batches_of others).rest)
-
-one_line : (meaning : Option Command) → batches_of (meaning ∷ []) ≡ onto (request_of meaning) (record { ended = []; rest = [] })
-one_line meaning = refl
 
 -- a request after requests
 pub batches_more : (meanings : List (Option Command)) (meaning : Option Command) (requests : List Request) (request : Request)

@@ -7,6 +7,8 @@ use Rattle.world_actions.specs.declared.refusal.Refusal.TheVariants.{BadCell, Ba
 use Rattle.world_actions.specs.Refusal.{code_of}
 use Rattle.world_actions.specs.Effect.{Write, is_outside, writes_of}
 use Rattle.world_ticks.specs.Tick.{decision}
+use Rattle.world_ticks.specs.After.{accepted_writes}
+use Rattle.world_ticks.specs.Cells.{Access, Performs}
 use Rattle.batches.specs.declared.requests.Answer.{Answer}
 use Rattle.batches.specs.declared.requests.Answer.TheVariants.{Done, Word, Refused}
 use Rattle.batches.specs.declared.batch.Request.{Request}
@@ -106,6 +108,12 @@ accepted_of requests words = (after_requests (begun words) requests).accepted
 -- the world after them
 abbrev pub words_after : List Request → List ℕ → List ℕ
 words_after requests words = (after_requests (begun words) requests).words
+
+-- the accesses to a store made the writes of a batch, and no others
+abbrev pub PerformsBatch : {S : Type 0} → (words : S → List ℕ)
+    → (accessed : S → Access → S → Type 0) → S → List Request → S → Type 0
+PerformsBatch words accessed old requests new =
+    Performs accessed old (accepted_writes (words old) (accepted_of requests (words old))) new
 
 -- the line that answers a refused batch
 abbrev pub fault_text : Refusal → List ℕ

@@ -1,16 +1,12 @@
-ghost use Rattle.std.specs.Prelude.{◌≡◌, ◌≢◌, ◌+◌, ◌*◌, ◌≤◌, ◌<◌, ◌++◌, ◌∷◌, [], ℕ, List, length};
-ghost use Rattle.std.specs.Prelude.{min, vec_capacity, decimal, codes, Ok, Err, IsOk, OnOk, OnErr};
-ghost use Rattle.std.specs.Prelude.{IfOk, IfErr};
-ghost use Rattle.world_actions.specs.Effect.{Write};
+ghost use Rattle.std.specs.Prelude.{◌≡◌, ◌+◌, ◌≤◌, ◌++◌, ◌∷◌, [], ℕ, List, length, vec_capacity};
+ghost use Rattle.std.specs.Prelude.{Ok, OnOk, OnErr, IfErr};
 ghost use Rattle.world_ticks.specs.declared.tick.TheConstants.{TICK_ACTIONS};
-ghost use Rattle.world_ticks.specs.After.{after_actions, accepted_writes};
-ghost use Rattle.world_ticks.specs.Cells.{Performs};
+ghost use Rattle.world_ticks.specs.After.{after_actions};
 ghost use Rattle.batches.specs.declared.batch.Request.{Request as Asked};
-ghost use Rattle.batches.specs.Answer.{Play, begun, reply, replies, after_request, after_requests};
-ghost use Rattle.batches.specs.Answer.{writes_by, answer, accepted_of, words_after};
+ghost use Rattle.batches.specs.Answer.{text_of, answer, accepted_of, words_after, PerformsBatch};
 
-use crate::batch::{Batch, Request};
-use crate::requests::run_request;
+use crate::batch::Batch;
+use crate::requests::{Answer, run_request};
 use crate::text::{put, put_answer, put_number};
 use world_actions::Refusal;
 use world_ticks::{Cells, TICK_ACTIONS, Tick};
@@ -35,8 +31,7 @@ pub fn answer_text<C: Cells>(
     ensures text { OnOk result (text.new.items ≡ answer b.now.list (C.words c.old) number) }
     ensures tick { OnOk result (t.new.list ≡ accepted_of b.now.list (C.words c.old)) }
     ensures words { OnOk result (C.words c.new ≡ words_after b.now.list (C.words c.old)) }
-    ensures writes { OnOk result (Performs C.accessed c.old
-        (accepted_writes (C.words c.old) (accepted_of b.now.list (C.words c.old))) c.new) }
+    ensures writes { OnOk result (PerformsBatch C.words C.accessed c.old b.now.list c.new) }
     ensures memory { IfErr result (λ refusal. refusal ≡ Refusal.NoMemory) }
     ensures unchanged { OnErr result ((c.new ≡ c.old) × (t.new ≡ t.old)) }
 {
@@ -48,7 +43,7 @@ pub fn answer_text<C: Cells>(
     put_number(text, number);
     put(text, b":");
     for request in requests {
-        put_reply(c, t, *request, text);
+        put_reply(text, run_request(c, t, *request));
     }
     put(text, b"\n");
     Ok(())
@@ -62,22 +57,13 @@ pub fn answers_are_ticks()
         → length (accepted_of requests words) ≤ TICK_ACTIONS }
 {}
 
-// Runs a request, and appends a space and the text of its answer.
-fn put_reply<C: Cells>(c: &mut C, t: &mut Tick, request: Request, text: &mut Vec<u8>)
-    requires tick_room { t.old.room ≡ 0 → TICK_ACTIONS ≤ length t.old.list }
-    requires text_room { length text.old.items + REPLY_BYTES ≤ vec_capacity text.old }
-    ensures text { text.new.items ≡ text.old.items
-        ++ (32 ∷ reply (record { words = C.words c.old; accepted = t.old.list }) request) }
+// Appends a space and the text of an answer, for which there is room.
+fn put_reply(text: &mut Vec<u8>, given: Answer)
+    requires { length text.old.items + REPLY_BYTES ≤ vec_capacity text.old }
+    ensures text { text.new.items ≡ text.old.items ++ (32 ∷ text_of given) }
     ensures few { length text.new.items ≤ length text.old.items + REPLY_BYTES }
     ensures room { vec_capacity text.old ≤ vec_capacity text.new }
-    ensures after { record { words = C.words c.new; accepted = t.new.list }
-        ≡ after_request (record { words = C.words c.old; accepted = t.old.list }) request }
-    ensures writes { Performs C.accessed c.old
-        (writes_by (record { words = C.words c.old; accepted = t.old.list }) request) c.new }
-    ensures tick_room { t.old.room + length t.old.list ≤ t.new.room + length t.new.list }
-    ensures one { length t.new.list ≤ length t.old.list + 1 }
 {
-    let answer = run_request(c, t, request);
     put(text, b" ");
-    put_answer(text, answer);
+    put_answer(text, given);
 }

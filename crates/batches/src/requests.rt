@@ -1,9 +1,8 @@
 ghost use Rattle.std.specs.Prelude.{◌≡◌, ◌+◌, ◌≤◌, [], length, OnOk, OnErr, IfErr};
 ghost use Rattle.world_ticks.specs.declared.tick.TheConstants.{TICK_ACTIONS};
-ghost use Rattle.world_ticks.specs.After.{accepted_writes};
 ghost use Rattle.world_ticks.specs.Cells.{Performs};
 ghost use Rattle.batches.specs.Answer.{Play, answer_of, answers_of, after_request, writes_by};
-ghost use Rattle.batches.specs.Answer.{accepted_of, words_after};
+ghost use Rattle.batches.specs.Answer.{accepted_of, words_after, PerformsBatch};
 
 use crate::batch::{Batch, Request};
 use world_actions::Refusal;
@@ -33,8 +32,7 @@ pub fn answer_each<C: Cells>(
     ensures answers { OnOk result (answers.new.items ≡ answers_of b.now.list (C.words c.old)) }
     ensures tick { OnOk result (t.new.list ≡ accepted_of b.now.list (C.words c.old)) }
     ensures words { OnOk result (C.words c.new ≡ words_after b.now.list (C.words c.old)) }
-    ensures writes { OnOk result (Performs C.accessed c.old
-        (accepted_writes (C.words c.old) (accepted_of b.now.list (C.words c.old))) c.new) }
+    ensures writes { OnOk result (PerformsBatch C.words C.accessed c.old b.now.list c.new) }
     ensures memory { IfErr result (λ refusal. refusal ≡ Refusal.NoMemory) }
     ensures unchanged { OnErr result ((c.new ≡ c.old) × (t.new ≡ t.old)) }
     ensures none { OnErr result (answers.new.items ≡ []) }

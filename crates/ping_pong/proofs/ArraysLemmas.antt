@@ -56,7 +56,7 @@ slice_get-dirty_words (m ∷ marks) (w ∷ words) (suc i) word e at = slice_get-
 
 -- there is an entry of the previous array for each cell
 length-previous_entries : (store : Arrays) → IsInOrder store → length (previous_entries store) ≡ length store.live
-length-previous_entries store ok = length-dirty_words store.previous_dirty store.previous_words (ok.previous_dirty_length ∙ sym ok.previous_words_length) ∙ ok.previous_words_length
+length-previous_entries store ok = length-dirty_words store.previous.dirty store.previous.words (ok.previous_fits.1 ∙ sym ok.previous_fits.0) ∙ ok.previous_fits.0
 
 -- how many cells are left
 pub length-left : (store : Arrays) → IsInOrder store → length (content_of store).left ≡ length store.live - store.taken
@@ -65,40 +65,36 @@ length-left store ok = simp (length-drop, length-previous_entries store ok)
 -- a write keeps a store in order
 pub in_order-written_arrays : (store : Arrays) (i v : ℕ) → IsInOrder store → IsWord v → IsInOrder (written_arrays store i v)
 in_order-written_arrays store i v ok word = record {
-  current_words_length = length-set store.current_words i v ∙ ok.current_words_length ∙ sym (length-set store.live i v);
-  current_dirty_length = length-set store.current_dirty i true ∙ ok.current_dirty_length ∙ sym (length-set store.live i v);
-  previous_words_length = ok.previous_words_length ∙ sym (length-set store.live i v);
-  previous_dirty_length = ok.previous_dirty_length ∙ sym (length-set store.live i v);
+  current_fits = (
+    length-set store.current.words i v ∙ ok.current_fits.0 ∙ sym (length-set store.live i v),
+    length-set store.current.dirty i true ∙ ok.current_fits.1 ∙ sym (length-set store.live i v),
+    All-set IsWord store.current.words i v word ok.current_fits.2,
+  );
+  previous_fits = (ok.previous_fits.0 ∙ sym (length-set store.live i v), ok.previous_fits.1 ∙ sym (length-set store.live i v), ok.previous_fits.2);
   taken_most = omega (arith, ok.taken_most, length-set store.live i v);
   live_words = All-set IsWord store.live i v word ok.live_words;
-  previous_are_words = ok.previous_are_words;
-  current_are_words = All-set IsWord store.current_words i v word ok.current_are_words;
-  current = dirty_words-set store.current_dirty store.current_words i v ∙ ap (λ list. set list i (Some v)) ok.current ∙ sym (dirty_words-set store.current_dirty store.live i v);
+  as_live = dirty_words-set store.current.dirty store.current.words i v ∙ ap (λ list. set list i (Some v)) ok.as_live ∙ sym (dirty_words-set store.current.dirty store.live i v);
   clean = ok.clean;
 }
 
 -- if nothing is left, every entry of the previous array is clean
-clean-at_end : (store : Arrays) → IsInOrder store → (content_of store).left ≡ [] → store.previous_dirty ≡ replicate (length store.live) false
+clean-at_end : (store : Arrays) → IsInOrder store → (content_of store).left ≡ [] → store.previous.dirty ≡ replicate (length store.live) false
 clean-at_end store ok none =
     let end : length store.live ≤ store.taken = omega (arith, length-left store ok, ap length none) in
     let all : store.taken ≡ length store.live = omega (arith, ok.taken_most) in
-    sym (take_all store.taken store.previous_dirty (omega (arith, ok.previous_dirty_length))) ∙ ok.clean ∙ ap (λ n. replicate n false) all
+    sym (take_all store.taken store.previous.dirty (omega (arith, ok.previous_fits.1))) ∙ ok.clean ∙ ap (λ n. replicate n false) all
 
 -- a mark keeps a store in order
 pub in_order-swapped_arrays : (store : Arrays) → IsInOrder store → (content_of store).left ≡ [] → IsInOrder (swapped_arrays store)
 in_order-swapped_arrays store ok none = record {
-  current_words_length = ok.previous_words_length;
-  current_dirty_length = ok.previous_dirty_length;
-  previous_words_length = ok.current_words_length;
-  previous_dirty_length = ok.current_dirty_length;
+  current_fits = ok.previous_fits;
+  previous_fits = ok.current_fits;
   taken_most = omega arith;
   live_words = ok.live_words;
-  previous_are_words = ok.current_are_words;
-  current_are_words = ok.previous_are_words;
-  current =
+  as_live =
       let clean = clean-at_end store ok none in
-      ap (λ marks. dirty_words marks store.previous_words) clean
-      ∙ dirty_words-clean (length store.live) store.previous_words store.live ok.previous_words_length refl
+      ap (λ marks. dirty_words marks store.previous.words) clean
+      ∙ dirty_words-clean (length store.live) store.previous.words store.live ok.previous_fits.0 refl
       ∙ sym (ap (λ marks. dirty_words marks store.live) clean);
   clean = refl;
 }
@@ -107,9 +103,9 @@ in_order-swapped_arrays store ok none = record {
 pub marks-swapped_arrays : (store : Arrays) → IsInOrder store → Marks (content_of store) (content_of (swapped_arrays store))
 marks-swapped_arrays store ok = record {
   live = refl;
-  cells = length-dirty_words store.current_dirty store.current_words (ok.current_dirty_length ∙ sym ok.current_words_length) ∙ ok.current_words_length;
-  left = λ i word at. subst (λ list. (slice_get list i ≡ Some (Some word)) ⊎ ((slice_get list i ≡ Some None) × (slice_get store.current_dirty i ≡ Some false))) (sym ok.current)
-      (slice_get-dirty_words store.current_dirty store.live i word ok.current_dirty_length at);
+  cells = length-dirty_words store.current.dirty store.current.words (ok.current_fits.1 ∙ sym ok.current_fits.0) ∙ ok.current_fits.0;
+  left = λ i word at. subst (λ list. (slice_get list i ≡ Some (Some word)) ⊎ ((slice_get list i ≡ Some None) × (slice_get store.current.dirty i ≡ Some false))) (sym ok.as_live)
+      (slice_get-dirty_words store.current.dirty store.live i word ok.current_fits.1 at);
 }
 
 -- the content of a store just built
@@ -128,7 +124,7 @@ takes-entry store entry is =
     drop_more (previous_entries store) store.taken None lt ∙ ap (λ e. e ∷ drop (store.taken + 1) (previous_entries store)) at in
     record {
       gives = sym (ap (λ list. option_map taken_of (slice_get list 0)) split);
-      rest = ap (λ left. record (content_of store) { left = left }) (drop-dirty_words-set store.previous_dirty store.previous_words store.taken false ∙ sym (ap (λ list. drop 1 list) split));
+      rest = ap (λ left. record (content_of store) { left = left }) (drop-dirty_words-set store.previous.dirty store.previous.words store.taken false ∙ sym (ap (λ list. drop 1 list) split));
     }
 
 -- a take if none is left
@@ -149,9 +145,9 @@ get_or-dirty_words (m ∷ marks) (w ∷ words) (suc i) e lt = get_or-dirty_words
 
 -- the answer of a take, from the mark and the word that the code reads
 pub entry-is : (store : Arrays) (mark : Bool) (word : ℕ) (entry : Option ℕ) → IsInOrder store → store.taken < length store.live →
-    mark ≡ get_or store.previous_dirty store.taken false → word ≡ get_or store.previous_words store.taken word →
+    mark ≡ get_or store.previous.dirty store.taken false → word ≡ get_or store.previous.words store.taken word →
     entry ≡ then_some mark word → Some entry ≡ slice_get (previous_entries store) store.taken
 entry-is store mark word entry ok lt m w is =
-    let value : word ≡ get_or store.previous_words store.taken 0 = get_or_read store.previous_words store.taken word (omega (arith, ok.previous_words_length)) w 0 in
-    ap (λ e. Some e) (is ∙ ap (λ b. then_some b word) m ∙ ap (λ v. then_some (get_or store.previous_dirty store.taken false) v) value)
-    ∙ sym (get_or-dirty_words store.previous_dirty store.previous_words store.taken (ok.previous_dirty_length ∙ sym ok.previous_words_length) (omega (arith, ok.previous_words_length)))
+    let value : word ≡ get_or store.previous.words store.taken 0 = get_or_read store.previous.words store.taken word (omega (arith, ok.previous_fits.0)) w 0 in
+    ap (λ e. Some e) (is ∙ ap (λ b. then_some b word) m ∙ ap (λ v. then_some (get_or store.previous.dirty store.taken false) v) value)
+    ∙ sym (get_or-dirty_words store.previous.dirty store.previous.words store.taken (ok.previous_fits.1 ∙ sym ok.previous_fits.0) (omega (arith, ok.previous_fits.0)))

@@ -5,24 +5,26 @@ use Rattle.std.specs.Bool.{then_some}
 use Rattle.world_actions.specs.World.{IsWord}
 use Rattle.capture_core.specs.Content.{Content}
 
--- the live words, the words and the dirty marks of both arrays, and the number of taken
--- cells of the round
+-- the words and the dirty marks of an array
+pub record Entries : Type 0 where
+  pub words : List ℕ
+  pub dirty : List Bool
+
+-- the live words, both arrays, and the number of taken cells of the round
 pub record Arrays : Type 0 where
   pub live : List ℕ
-  pub current_words : List ℕ
-  pub current_dirty : List Bool
-  pub previous_words : List ℕ
-  pub previous_dirty : List Bool
+  pub current : Entries
+  pub previous : Entries
   pub odd_is_current : Bool
   pub taken : ℕ
 
 -- the words of array odd
 abbrev pub odd_words : Arrays → List ℕ
-odd_words store = if store.odd_is_current then store.current_words else store.previous_words
+odd_words store = if store.odd_is_current then store.current.words else store.previous.words
 
 -- the words of array even
 abbrev pub even_words : Arrays → List ℕ
-even_words store = if store.odd_is_current then store.previous_words else store.current_words
+even_words store = if store.odd_is_current then store.previous.words else store.current.words
 
 -- for each entry its word if it is dirty, else nothing
 abbrev pub dirty_words : List Bool → List ℕ → List (Option ℕ)
@@ -32,40 +34,39 @@ dirty_words (dirty ∷ marks) (word ∷ words) = then_some dirty word ∷ dirty_
 
 -- the entries of the previous array, which takes hand out
 abbrev pub previous_entries : Arrays → List (Option ℕ)
-previous_entries store = dirty_words store.previous_dirty store.previous_words
+previous_entries store = dirty_words store.previous.dirty store.previous.words
 
 -- the content of a store: a cell is touched if its entry in the current array is dirty
 abbrev pub content_of : Arrays → Content
 content_of store = record {
   live = store.live;
-  touched = store.current_dirty;
+  touched = store.current.dirty;
   left = drop store.taken (previous_entries store);
 }
+
+-- the entries of so many cells
+abbrev pub AreEntries : ℕ → Entries → Type 0
+AreEntries cells entries = (length entries.words ≡ cells) × (length entries.dirty ≡ cells)
+    × All IsWord entries.words
 
 -- the facts that hold for every store; a dirty entry of the current array has the live word, and a
 -- taken entry is clean
 pub record IsInOrder (store : Arrays) : Type 0 where
-  pub current_words_length : length store.current_words ≡ length store.live
-  pub current_dirty_length : length store.current_dirty ≡ length store.live
-  pub previous_words_length : length store.previous_words ≡ length store.live
-  pub previous_dirty_length : length store.previous_dirty ≡ length store.live
+  pub current_fits : AreEntries (length store.live) store.current
+  pub previous_fits : AreEntries (length store.live) store.previous
   pub taken_most : store.taken ≤ length store.live
   pub live_words : All IsWord store.live
-  pub previous_are_words : All IsWord store.previous_words
-  pub current_are_words : All IsWord store.current_words
-  pub current : dirty_words store.current_dirty store.current_words
-      ≡ dirty_words store.current_dirty store.live
-  pub clean : take store.taken store.previous_dirty ≡ replicate store.taken false
+  pub as_live : dirty_words store.current.dirty store.current.words
+      ≡ dirty_words store.current.dirty store.live
+  pub clean : take store.taken store.previous.dirty ≡ replicate store.taken false
 
 -- All three arrays are the words. Odd is current, with every entry dirty. Even has no dirty entry.
 -- No cell is left to take.
 abbrev pub built_arrays : List ℕ → Arrays
 built_arrays words = record {
   live = words;
-  current_words = words;
-  current_dirty = replicate (length words) true;
-  previous_words = words;
-  previous_dirty = replicate (length words) false;
+  current = record { words = words; dirty = replicate (length words) true };
+  previous = record { words = words; dirty = replicate (length words) false };
   odd_is_current = true;
   taken = length words;
 }
@@ -74,17 +75,17 @@ built_arrays words = record {
 abbrev pub written_arrays : Arrays → ℕ → ℕ → Arrays
 written_arrays store i v = record store {
   live = slice_set store.live i v;
-  current_words = slice_set store.current_words i v;
-  current_dirty = slice_set store.current_dirty i true;
+  current = record {
+    words = slice_set store.current.words i v;
+    dirty = slice_set store.current.dirty i true;
+  };
 }
 
 -- a mark swaps current and previous, and no cell is taken
 abbrev pub swapped_arrays : Arrays → Arrays
 swapped_arrays store = record store {
-  current_words = store.previous_words;
-  current_dirty = store.previous_dirty;
-  previous_words = store.current_words;
-  previous_dirty = store.current_dirty;
+  current = store.previous;
+  previous = store.current;
   odd_is_current = not store.odd_is_current;
   taken = 0;
 }
@@ -92,6 +93,6 @@ swapped_arrays store = record store {
 -- a take of a cell cleans its entry, and moves to the next cell
 abbrev pub taken_arrays : Arrays → Arrays
 taken_arrays store = record store {
-  previous_dirty = slice_set store.previous_dirty store.taken false;
+  previous = record store.previous { dirty = slice_set store.previous.dirty store.taken false };
   taken = store.taken + 1;
 }

@@ -5,10 +5,8 @@ use Rattle.ping_pong.specs.declared.ping_pong.PingPong.TheInside.{Inside}
 abbrev pub arrays_of : Inside → Arrays
 arrays_of store = record {
   live = store.live.items;
-  current_words = store.current_words.items;
-  current_dirty = store.current_dirty;
-  previous_words = store.previous_words.items;
-  previous_dirty = store.previous_dirty;
+  current = record { words = store.current.words.items; dirty = store.current.dirty };
+  previous = record { words = store.previous.words.items; dirty = store.previous.dirty };
   odd_is_current = store.odd_is_current;
   taken = store.taken;
 }

@@ -1,5 +1,6 @@
-ghost use Rattle.std.specs.Prelude.{◌≡◌, ◌<◌, ◌↔◌, refl, [], ◌∷◌, length, All, slice_get};
-ghost use Rattle.std.specs.Prelude.{slice_index, slice_set, IfOk, IfErr, IfSome, IfNone, OnSome};
+ghost use Rattle.std.specs.Prelude.{◌≡◌, ◌<◌, ◌↔◌, refl, [], ◌∷◌, length, replicate, All};
+ghost use Rattle.std.specs.Prelude.{slice_get, slice_index, slice_set, IfOk, IfErr, IfSome};
+ghost use Rattle.std.specs.Prelude.{IfNone, OnSome};
 ghost use Rattle.world_actions.specs.World.{IsWord};
 ghost use Rattle.world_ticks.specs.Cells.{writes_among};
 ghost use Rattle.capture_core.specs.Taken.{IsTakenWord};
@@ -10,23 +11,41 @@ ghost use Rattle.ping_pong.specs.PingPong.{swapped_arrays, taken_arrays};
 
 use capture_core::{Capture, Taken, Taker};
 use packed_marks::PackedMarks;
-use std::alloc::Global;
+use std::alloc::{AllocError, Global};
 use std::marker::Model;
 use std::mem;
 use world_actions::Refusal;
 use world_ticks::Cells;
 
 /// A store of live words and two arrays of entries, odd and even. One array is current and the
-/// other is previous. An entry is a word and a dirty mark.
+/// other is previous.
 #[derive(Drop)]
 pub struct PingPong {
     live: Vec<u64>,
-    current_words: Vec<u64>,
-    current_dirty: PackedMarks,
-    previous_words: Vec<u64>,
-    previous_dirty: PackedMarks,
+    current: Entries,
+    previous: Entries,
     odd_is_current: bool,
     taken: usize,
+}
+
+// An array of entries. An entry is a word and a dirty mark.
+#[derive(Drop)]
+struct Entries {
+    words: Vec<u64>,
+    dirty: PackedMarks,
+}
+
+impl Entries {
+    // Makes entries of these words, all dirty or all clean.
+    fn new(alloc: Global, words: &[u64], dirty: bool) -> Result<Self, AllocError>
+        ensures words { IfOk result (λ made. made.words.items ≡ words.now) }
+        ensures dirty { IfOk result (λ made. made.dirty ≡ replicate (length words.now) dirty) }
+    {
+        Ok(Entries {
+            words: Vec::from_slice(alloc, words)?,
+            dirty: PackedMarks::new(alloc, words.len(), dirty)?,
+        })
+    }
 }
 
 impl Model for PingPong {
@@ -51,10 +70,8 @@ impl PingPong {
     {
         Ok(PingPong {
             live: Vec::from_slice(alloc, words)?,
-            current_words: Vec::from_slice(alloc, words)?,
-            current_dirty: PackedMarks::new(alloc, words.len(), true)?,
-            previous_words: Vec::from_slice(alloc, words)?,
-            previous_dirty: PackedMarks::new(alloc, words.len(), false)?,
+            current: Entries::new(alloc, words, true)?,
+            previous: Entries::new(alloc, words, false)?,
             odd_is_current: true,
             taken: words.len(),
         })
@@ -67,9 +84,9 @@ impl PingPong {
         ensures even { result.1 ≡ slice_index (even_words self.now) i }
     {
         if self.odd_is_current {
-            (self.current_words[i], self.previous_words[i])
+            (self.current.words[i], self.previous.words[i])
         } else {
-            (self.previous_words[i], self.current_words[i])
+            (self.previous.words[i], self.current.words[i])
         }
     }
 }
@@ -82,8 +99,8 @@ impl PingPong {
         ensures { self.new ≡ written_arrays self.old i v }
     {
         self.live[i] = v;
-        self.current_words[i] = v;
-        self.current_dirty.put(i, true);
+        self.current.words[i] = v;
+        self.current.dirty.put(i, true);
     }
 
     fn swap_arrays(&mut self)
@@ -91,8 +108,7 @@ impl PingPong {
         ensures moved { self.new ≡ swapped_arrays self.old }
         ensures order { IsInOrder self.old }
     {
-        mem::swap(&mut self.current_words, &mut self.previous_words);
-        mem::swap(&mut self.current_dirty, &mut self.previous_dirty);
+        mem::swap(&mut self.current, &mut self.previous);
         self.odd_is_current = !self.odd_is_current;
         self.taken = 0;
     }
@@ -108,9 +124,9 @@ impl PingPong {
             return None;
         }
         self.taken += 1;
-        let dirty = self.previous_dirty.is_set(i);
-        self.previous_dirty.put(i, false);
-        Some(dirty.then_some(self.previous_words[i]))
+        let dirty = self.previous.dirty.is_set(i);
+        self.previous.dirty.put(i, false);
+        Some(dirty.then_some(self.previous.words[i]))
     }
 }
 

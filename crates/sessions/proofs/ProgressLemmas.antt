@@ -1,5 +1,5 @@
 -- A session advances by whole batches.
-use Rattle.std.proofs.Common.{arith, refl, sym, ap, subst, ◌∙◌, ◌≡◌, ℕ, ◌<◌, ◌≤◌, List, [], ◌∷◌, ◌++◌, append_assoc, append-nil, length, take, drop, true, false, Option, Result}
+use Rattle.std.proofs.Common.{arith, refl, sym, ap, subst, ◌∙◌, ◌≡◌, ℕ, ◌<◌, ◌≤◌, List, [], ◌∷◌, ◌++◌, append_assoc, append-nil, length, take, drop, Bool, true, false, Option, Result}
 use Rattle.std.proofs.lemmas.Bool.Decides.{nat_tests}
 use Rattle.std.proofs.lemmas.List.{length-append, take-append-drop}
 use Rattle.line_grammar.specs.declared.command.Command.{Command}
@@ -12,7 +12,7 @@ use Rattle.batches.specs.Answer.{fault_text}
 use Rattle.batches.specs.Reading.{Reading, AreLines, IsBegun, IsWhole, IsTooMuch}
 use Rattle.batches.proofs.LineLemmas.{MeanAll-append, lines_none, lines_then, added, batches_append, batches_after, ended_lines-none}
 use Rattle.byte_streams.specs.Front.{IsFront}
-use Rattle.sessions.specs.Session.{is_too_long, answered_in, ends_early, line_of, Answers, IsSession, IsCutOff, Between, InAnswer, InEnd}
+use Rattle.sessions.specs.Session.{is_too_long, answered_in, ends_early, early_end, line_of, Answers, IsSession, IsCutOff, BrokenOff, Between, InAnswer, InEnd}
 use Rattle.sessions.specs.Progress.{NoneTooLong, Stands, Goes, EndsEarly, BreaksOff}
 
 -- ---- batches that fit
@@ -35,7 +35,43 @@ ends_fit : (batches more : List (List Request)) (rest : List Request) → NoneTo
 ends_fit [] more rest fit = refl
 ends_fit (first ∷ batches) more rest fit = rw fit.0 (ends_fit batches more rest fit.1)
 
+-- the lines of an input mean this, and so these batches are answered
+record IsMeant (input : List ℕ) (batches : List (List Request)) (early : Bool) : Type 0 where
+  meanings : List (Option Command)
+  mean : MeanAll (ended_lines input) meanings
+  answered : answered_in (batches_of meanings).ended ≡ batches
+  early_is : ends_early (batches_of meanings).ended (batches_of meanings).rest ≡ early
+
 module _ {S : Type 0} (runs : S → List Request → Result (List ℕ) Refusal → S → Type 0) where
+  -- the session of an input all of whose batches are answered
+  session_of : (first last : S) (input written : List ℕ) (batches : List (List Request)) (early : Bool) → IsMeant input batches early
+      → Answers runs first batches written last → IsSession runs first input (written ++ early_end early) last early
+  session_of first last input written batches early t answered = record {
+    meanings = t.meanings;
+    mean = t.mean;
+    answers = written;
+    answered = subst (λ b. Answers runs first b written last) (sym t.answered) answered;
+    early_is = sym t.early_is;
+    text_is = refl;
+  }
+
+  -- the same, and then the output breaks off
+  cut_off_after : (first now last : S) (input written part : List ℕ) (batches : List (List Request)) (early : Bool) → IsMeant input batches early
+      → Answers runs first batches written now → BrokenOff runs now [] early part last → IsCutOff runs first input (written ++ part) last
+  cut_off_after first now last input written part batches early t answered broken = record {
+    meanings = t.meanings;
+    mean = t.mean;
+    done = batches;
+    later = [];
+    split = t.answered ∙ sym (append-nil batches);
+    now = now;
+    answers = written;
+    answered = answered;
+    part = part;
+    written_is = refl;
+    broken = subst (λ (e : Bool). BrokenOff runs now [] e part last) (sym t.early_is) broken;
+  }
+
   Answers-snoc : (first now next : S) (batches : List (List Request)) (batch : List Request) (given : Result (List ℕ) Refusal) (text : List ℕ)
       → Answers runs first batches text now → runs now batch given next → Answers runs first (batches ++ batch ∷ []) (text ++ line_of given) next
   Answers-snoc first now next [] batch given text answered run =
@@ -144,13 +180,8 @@ module _ {S : Type 0} (runs : S → List Request → Result (List ℕ) Refusal �
             (MeanAll-append lines.lines (ended_lines left) meanings rest.0 lines.mean rest.1)),
       )
 
-  record TooLong (first now : S) (old : Reading) (read prior bytes left : List ℕ) (s : Stands runs first read old now prior) : Type 0 where
-    meanings : List (Option Command)
-    mean : MeanAll (ended_lines (read ++ (bytes ++ left))) meanings
-    answered : answered_in (batches_of meanings).ended ≡ s.batches
-    early : ends_early (batches_of meanings).ended (batches_of meanings).rest ≡ true
-
-  too_long : (first now : S) (old : Reading) (read prior bytes left : List ℕ) (s : Stands runs first read old now prior) → IsTooMuch (s.begun ++ bytes) → TooLong first now old read prior bytes left s
+  too_long : (first now : S) (old : Reading) (read prior bytes left : List ℕ) (s : Stands runs first read old now prior)
+      → IsTooMuch (s.begun ++ bytes) → IsMeant (read ++ (bytes ++ left)) s.batches true
   too_long first now old read prior bytes left s t =
       let all = all_read first now old read prior bytes left s t.meanings t.lines in
       let more = batches_of all.0 in
@@ -168,7 +199,7 @@ module _ {S : Type 0} (runs : S → List Request → Result (List ℕ) Refusal �
         answered =
             ap (λ (b : Batches). answered_in b.ended) whole
             ∙ (answered_fit s.batches (added [] t.requests more.ended more.rest).ended s.fit ∙ (ap (λ l. s.batches ++ l) late_ones.0 ∙ append-nil s.batches));
-        early =
+        early_is =
             ap (λ (b : Batches). ends_early b.ended b.rest) whole
             ∙ (ends_fit s.batches (added [] t.requests more.ended more.rest).ended (added [] t.requests more.ended more.rest).rest s.fit ∙ late_ones.1);
       }
@@ -178,15 +209,8 @@ module _ {S : Type 0} (runs : S → List Request → Result (List ℕ) Refusal �
       → ((before : List ℕ) → IsBegun before old → IsTooMuch (before ++ take n piece)) → EndsEarly runs now old piece now (fault_text BadLine)
   too_long_ends now old n piece long = subst (λ b. EndsEarly runs now old b now (fault_text BadLine)) (take-append-drop n piece) (record {
     on = λ first read prior s.
-        let t = too_long first now old read prior (take n piece) (drop n piece) s (long s.begun s.reads) in
-        record {
-          meanings = t.meanings;
-          mean = t.mean;
-          answers = prior;
-          answered = subst (λ b. Answers runs first b prior now) (sym t.answered) s.answered;
-          early_is = sym t.early;
-          text_is = refl;
-        };
+        session_of runs first now (read ++ (take n piece ++ drop n piece)) prior s.batches true
+        (too_long first now old read prior (take n piece) (drop n piece) s (long s.begun s.reads)) s.answered;
   })
 
   -- or writing that line fails
@@ -194,20 +218,8 @@ module _ {S : Type 0} (runs : S → List Request → Result (List ℕ) Refusal �
       → ((before : List ℕ) → IsBegun before old → IsTooMuch (before ++ take n piece)) → IsFront front (fault_text BadLine) → BreaksOff runs now old piece now front
   too_long_breaks now old n piece front long is = subst (λ b. BreaksOff runs now old b now front) (take-append-drop n piece) (record {
     on = λ first read prior s.
-        let t = too_long first now old read prior (take n piece) (drop n piece) s (long s.begun s.reads) in
-        record {
-          meanings = t.meanings;
-          mean = t.mean;
-          done = s.batches;
-          later = [];
-          split = t.answered ∙ sym (append-nil s.batches);
-          now = now;
-          answers = prior;
-          answered = s.answered;
-          part = front;
-          written_is = refl;
-          broken = InEnd refl t.early refl is;
-        };
+        cut_off_after runs first now now (read ++ (take n piece ++ drop n piece)) prior front s.batches true
+        (too_long first now old read prior (take n piece) (drop n piece) s (long s.begun s.reads)) s.answered (InEnd refl refl refl is);
   })
 
   -- a batch has ended, and writing its answer fails
@@ -255,14 +267,8 @@ module _ {S : Type 0} (runs : S → List Request → Result (List ℕ) Refusal �
         (subst (λ r. IsCutOff runs first r ((prior ++ written) ++ rest) last) (append_assoc read bytes more) (two.on first (read ++ bytes) (prior ++ written) (one.on first read prior s)));
   }
 
-  -- the bytes that were read so far, as a session
-  record SoFar (first now : S) (reading : Reading) (read written : List ℕ) (s : Stands runs first read reading now written) : Type 0 where
-    meanings : List (Option Command)
-    mean : MeanAll (ended_lines read) meanings
-    answered : answered_in (batches_of meanings).ended ≡ s.batches
-    early : ends_early (batches_of meanings).ended (batches_of meanings).rest ≡ false
-
-  so_far : (first now : S) (reading : Reading) (read written : List ℕ) (s : Stands runs first read reading now written) → SoFar first now reading read written s
+  -- the bytes that were read so far
+  so_far : (first now : S) (reading : Reading) (read written : List ℕ) (s : Stands runs first read reading now written) → IsMeant read s.batches false
   so_far first now reading read written s =
       let b = s.reads in
       let same : read ≡ s.before ++ (b.before ++ b.line) = s.split ∙ ap (λ l. s.before ++ l) b.split in
@@ -277,34 +283,13 @@ module _ {S : Type 0} (runs : S → List Request → Result (List ℕ) Refusal �
         meanings = s.meanings ++ b.meanings;
         mean = subst (λ l. MeanAll l (s.meanings ++ b.meanings)) (sym are) (MeanAll-append s.lines.lines b.lines.lines s.meanings b.meanings s.lines.mean b.lines.mean);
         answered = ap (λ (x : Batches). answered_in x.ended) whole ∙ (answered_fit s.batches [] s.fit ∙ append-nil s.batches);
-        early = ap (λ (x : Batches). ends_early x.ended x.rest) whole ∙ (ends_fit s.batches [] reading.requests s.fit ∙ fits_test reading.requests b.few);
+        early_is = ap (λ (x : Batches). ends_early x.ended x.rest) whole ∙ (ends_fit s.batches [] reading.requests s.fit ∙ fits_test reading.requests b.few);
       }
 
   pub session_ends : (first now : S) (reading : Reading) (read written : List ℕ) → Stands runs first read reading now written → IsSession runs first read written now false
-  session_ends first now reading read written s =
-      let t = so_far first now reading read written s in
-      record {
-        meanings = t.meanings;
-        mean = t.mean;
-        answers = written;
-        answered = subst (λ b. Answers runs first b written now) (sym t.answered) s.answered;
-        early_is = sym t.early;
-        text_is = sym (append-nil written);
-      }
+  session_ends first now reading read written s = subst (λ t. IsSession runs first read t now false) (append-nil written)
+      (session_of runs first now read written s.batches false (so_far first now reading read written s) s.answered)
 
   pub session_stops : (first now : S) (reading : Reading) (read written : List ℕ) → Stands runs first read reading now written → IsCutOff runs first read written now
-  session_stops first now reading read written s =
-      let t = so_far first now reading read written s in
-      record {
-        meanings = t.meanings;
-        mean = t.mean;
-        done = s.batches;
-        later = [];
-        split = t.answered ∙ sym (append-nil s.batches);
-        now = now;
-        answers = written;
-        answered = s.answered;
-        part = [];
-        written_is = sym (append-nil written);
-        broken = Between refl refl;
-      }
+  session_stops first now reading read written s = subst (λ t. IsCutOff runs first read t now) (append-nil written)
+      (cut_off_after runs first now now read written [] s.batches false (so_far first now reading read written s) s.answered (Between refl refl))

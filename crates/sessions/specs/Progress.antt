@@ -1,7 +1,8 @@
 -- The progress of a session, for the functions that run it piece by piece.
-use Rattle.std.specs.Prelude.{◌≡◌, ℕ, List, [], ◌∷◌, ◌++◌, true, false, Option, Result}
+use Rattle.std.specs.Prelude.{◌≡◌, ◌⊎◌, ℕ, List, [], ◌∷◌, ◌++◌, true, false, Option, Result}
 use Rattle.line_grammar.specs.declared.command.Command.{Command}
 use Rattle.world_actions.specs.declared.refusal.Refusal.{Refusal}
+use Rattle.world_actions.specs.declared.refusal.Refusal.TheVariants.{BadLine, Device}
 use Rattle.batches.specs.declared.batch.Request.{Request}
 use Rattle.batches.specs.Batch.{batches_of}
 use Rattle.batches.specs.Reading.{Reading, AreLines, IsBegun}
@@ -44,3 +45,9 @@ module _ {S : Type 0} (runs : S → List Request → Result (List ℕ) Refusal �
       (written : List ℕ) : Type 0 where
     pub on : (first : S) (read prior : List ℕ) → Stands first read old now prior
         → IsCutOff runs first (read ++ bytes) (prior ++ written) last
+
+  -- the session ends among the bytes with this refusal
+  abbrev pub EndsBy : S → Reading → List ℕ → Refusal → S → List ℕ → Type 0
+  EndsBy now old bytes refusal last written =
+      ((refusal ≡ BadLine) × EndsEarly now old bytes last written)
+      ⊎ ((refusal ≡ Device) × BreaksOff now old bytes last written)

@@ -5,7 +5,7 @@ ghost use Rattle.world_actions.specs.declared.refusal.Refusal.{Refusal as Reason
 ghost use Rattle.batches.specs.Answer.{fault_text};
 ghost use Rattle.byte_streams.specs.Front.{IsFront};
 ghost use Rattle.sessions.specs.Session.{line_of, IsSession, IsCutOff};
-ghost use Rattle.sessions.specs.Progress.{Stands, Goes, EndsEarly, BreaksOff};
+ghost use Rattle.sessions.specs.Progress.{Stands, Goes, EndsBy};
 
 use crate::world::World;
 use arrayvec::ArrayString;
@@ -105,10 +105,7 @@ fn serve_piece<W: Write, X: World>(
         × Goes X.runs world.old session.old.reader piece.now session.new.reader world.new written) }
     ensures fault { IfErr result (λ refusal. (written : List ℕ)
         × Appends (W.contents w.old) (W.contents w.new) written
-        × (((refusal ≡ Refusal.BadLine)
-        × EndsEarly X.runs world.old session.old.reader piece.now world.new written)
-        ⊎ ((refusal ≡ Refusal.Device)
-        × BreaksOff X.runs world.old session.old.reader piece.now world.new written))) }
+        × EndsBy X.runs world.old session.old.reader piece.now refusal world.new written) }
 {
     let mut at = 0;
     while at < piece.len() {
@@ -132,10 +129,7 @@ fn serve_some<W: Write, X: World>(
         session.new.reader world.new written) }
     ensures fault { IfErr result (λ refusal. (written : List ℕ)
         × Appends (W.contents w.old) (W.contents w.new) written
-        × (((refusal ≡ Refusal.BadLine)
-        × EndsEarly X.runs world.old session.old.reader piece.now world.new written)
-        ⊎ ((refusal ≡ Refusal.Device)
-        × BreaksOff X.runs world.old session.old.reader piece.now world.new written))) }
+        × EndsBy X.runs world.old session.old.reader piece.now refusal world.new written) }
 {
     one_reading();
     let (n, fed) = session.reader.take(piece);

@@ -1,7 +1,7 @@
 -- The fields of the front stay what its seat knows.
 use Rattle.std.proofs.Common.{◌≡◌, ◌≢◌, ℕ, ◌<◌, ◌/◌, ◌%◌, Bool, List, [], ◌∷◌, ◌++◌, length, replicate, get_or, set, sym, refl}
 use Rattle.std.proofs.Common.{ap, ◌∙◌, subst, arith, length-set, get_or-set_other, get_or-set_same, true, false, not, All}
-use Rattle.std.proofs.lemmas.List.{length-replicate, get_or-replicate}
+use Rattle.std.proofs.lemmas.List.{length-replicate, get_or-replicate, get_or_read}
 use Rattle.std.proofs.lemmas.List.Elements.{All-set}
 use Rattle.std.proofs.lemmas.Bool.{false≢true}
 use mathlib.Core.Logic.{dite}
@@ -22,7 +22,7 @@ use Rattle.shared_capture.specs.Table.{HasCells}
 use Rattle.shared_capture.specs.Start.{front_start, back_start}
 use Rattle.shared_capture.specs.Steps.{front_of, after_load, after_write, after_mark, after_open, back_of}
 use Rattle.shared_capture.specs.Seats.{TableSeat, IsFront, IsFrontOf, IsReady, SameRest, FitsCells, IsSeated}
-use Rattle.shared_capture.specs.States.{IsStart, front_state, back_state}
+use Rattle.shared_capture.specs.States.{FrontState, IsStart, front_state, back_state}
 use Rattle.shared_capture.proofs.Places.{not_not}
 use Rattle.shared_capture.proofs.Keeps.{zigzag≢ping_pong}
 use Rattle.shared_capture.proofs.Touched.{touched_set, touched_same, touched_full}
@@ -34,6 +34,13 @@ sits_view t f seat k = ap (λ (z : View × List (ℕ × Unit {0})). front_of z.0
 
 pub resits : (t : TableId) (f : FrontView) (seat : TableSeat) → IsFront t f seat → IsFront t (front_of seat.me.0) seat
 resits t f seat k = subst (λ (z : FrontView). IsFront t z seat) (sym (sits_view t f seat k)) k
+
+-- the mark word of a cell, as the code reads it
+pub mark_read : (kind : Kind) (t u : TableId) (n : ℕ) (seat : TableSeat) (live marks away : List ℕ) (current : Bool) (i word : ℕ) (front : FrontState)
+    → IsFrontOf kind t n seat live marks away current → front_state kind u (front_of seat.me.0) ≡ front → i < length front.live
+    → word ≡ get_or marks (i / 64) word → word ≡ get_or marks (i / 64) 0
+mark_read kind t u n seat live marks away current i word front ok view_is inside is =
+    get_or_read marks (i / 64) word (omega (arith, ok.fits.2, ap length ok.marks_are, ap (λ (w : FrontState). length w.live) view_is, ok.fits.0, inside)) is 0
 
 module _ (kind : Kind) (t : TableId) (n : ℕ) (seat new : TableSeat) (live marks away : List ℕ) (current : Bool) (ok : IsFrontOf kind t n seat live marks away current) where
   abbrev f : FrontView

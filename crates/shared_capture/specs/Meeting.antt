@@ -8,25 +8,22 @@ use Rattle.shared_capture.specs.declared.view.Round.{Round}
 use Rattle.shared_capture.specs.declared.view.FrontView.{FrontView}
 use Rattle.shared_capture.specs.declared.view.BackView.{BackView}
 use Rattle.shared_capture.specs.declared.view.View.{View}
-use Rattle.shared_capture.specs.declared.view.View.TheVariants.{Spent, Front, Back, Pair}
+use Rattle.shared_capture.specs.declared.view.View.TheVariants.{Front, Back, Pair}
 use Rattle.shared_capture.specs.Methods.{touched_of}
 use Rattle.shared_capture.specs.Rounds.{Agree, snapshots_as}
 use Rattle.shared_capture.specs.Steps.{Sitting, front_of, back_of, after_look}
 
 -- the front's half of a pair of views
 abbrev pub front_part : View → View
-front_part (Pair f b) = Front f
-front_part v = v
+front_part v = Front (front_of v)
 
 -- the back's half of a pair of views
 abbrev pub back_part : View → View
-back_part (Pair f b) = Back b
-back_part v = Spent
+back_part v = Back (back_of v)
 
 -- the pair of a front's and a back's view
 abbrev pub paired : View → View → View
-paired (Front f) (Back b) = Pair f b
-paired v w = v
+paired v w = Pair (front_of v) (back_of w)
 
 -- the front after the meeting: if the phase is 0, it knows that no round is open
 abbrev pub front_met : ℕ → FrontView → FrontView

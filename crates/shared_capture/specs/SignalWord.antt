@@ -73,16 +73,13 @@ abbrev pub met : Step (Unit {0}) → Sitting → ℕ → Sitting → Type 0
 met st m found m' = (m' ≡ m) × AreStored (stored_of m.0) (loaded_of m.0)
 
 abbrev pub out_part : SignalView → SignalView
-out_part (Both stored loaded) = Out stored
-out_part view = view
+out_part view = Out (stored_of view)
 
 abbrev pub in_part : SignalView → SignalView
-in_part (Both stored loaded) = In loaded
-in_part view = Spent
+in_part view = In (loaded_of view)
 
 abbrev pub paired : SignalView → SignalView → SignalView
-paired (Out stored) (In loaded) = Both stored loaded
-paired first second = first
+paired first second = Both (stored_of first) (loaded_of second)
 
 -- ---- the seats
 

@@ -76,6 +76,10 @@ pub record KeepsUntouched (old new : FrontState) : Type 0 where
 abbrev pub marked_rounds : FrontState → ℕ → List Round
 marked_rounds front tick = front.rounds ++ round tick front.live front.touched ∷ []
 
+-- a round of this tick and of the words as they are is opened
+abbrev pub OpensRound : FrontState → ℕ → FrontState → Type 0
+OpensRound old tick new = SameWords old new × (new.rounds ≡ marked_rounds old tick) × HasFlags new
+
 -- a mark was refused: no round is added, and the phase word that was loaded isn't 0
 abbrev pub IsRefused : FrontState → Refusal → FrontState → Type 0
 IsRefused old refusal new =

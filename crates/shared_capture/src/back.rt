@@ -5,9 +5,8 @@ ghost use Rattle.std.specs.Arc.{arc_value};
 ghost use Rattle.capture_core.specs.Taken.{IsTakenWord};
 ghost use Rattle.shared_capture.specs.Steps.{back_of};
 ghost use Rattle.shared_capture.specs.Seats.{IsBackOf};
-ghost use Rattle.shared_capture.specs.States.{BackState, back_state, SameDone, SameRound};
-ghost use Rattle.shared_capture.specs.States.{HasNoneLeft, IsTaken, TookBack, FoundNone};
-ghost use Rattle.shared_capture.specs.States.{FoundRound};
+ghost use Rattle.shared_capture.specs.States.{BackState, back_state, SameDone, SameRound, IsTaken};
+ghost use Rattle.shared_capture.specs.States.{HasNoneLeft, TookBack, FoundNone, FoundRound};
 
 use crate::method::Method;
 use crate::steps::{finish, look, mark_for, take_known};

@@ -16,7 +16,7 @@ ghost use Rattle.shared_capture.specs.Steps.{front_of};
 ghost use Rattle.shared_capture.specs.Seats.{ListsChanges, FitsCells, IsFront, IsFrontOf, SameRest};
 ghost use Rattle.shared_capture.specs.States.{FrontState, front_state, HasFlags, KeepsUntouched};
 ghost use Rattle.shared_capture.specs.States.{SameRounds, SameWords, accessed_front, marked_rounds};
-ghost use Rattle.shared_capture.specs.States.{IsRefused};
+ghost use Rattle.shared_capture.specs.States.{IsPut, OpensRound, IsRefused};
 
 use crate::method::{Kind, Method};
 use crate::steps::{load_phase, store_mark, store_phase, store_value};
@@ -66,12 +66,7 @@ impl<M: Method> Cells for Front<M> {
         self.live.len()
     }
 
-    fn read(&mut self, i: usize) -> u64
-        requires { i < length self.old.live }
-        ensures word { result ≡ slice_index self.old.live i }
-        ensures limit { IsWord result }
-        ensures unchanged { self.new ≡ self.old }
-    {
+    fn read(&mut self, i: usize) -> u64 {
         self.live[i]
     }
 
@@ -133,9 +128,7 @@ impl<M: Method> Front<M> {
         requires kind { M.KIND ≡ Zigzag }
         requires inside { i < length self.old.live }
         requires limit { IsWord v }
-        ensures live { self.new.live ≡ slice_set self.old.live i v }
-        ensures touched { self.new.touched ≡ slice_set self.old.touched i true }
-        ensures same { SameRounds self.old self.new }
+        ensures put { IsPut self.old (record { cell = i; word = v }) self.new }
         ensures steps { self.new.steps ≡ self.old.steps + 1 }
     {
         let cells = self.live.len();
@@ -157,10 +150,7 @@ impl<M: Method> Front<M> {
         requires kind { M.KIND ≡ PingPong }
         requires inside { i < length self.old.live }
         requires limit { IsWord v }
-        ensures live { self.new.live ≡ slice_set self.old.live i v }
-        ensures touched { self.new.touched ≡ slice_set self.old.touched i true }
-        ensures same { SameRounds self.old self.new }
-        ensures steps { self.new.steps ≤ self.old.steps + 2 }
+        ensures { IsPut self.old (record { cell = i; word = v }) self.new }
     {
         let cells = self.live.len();
         let second = self.current;
@@ -183,15 +173,11 @@ impl<M: Method> Front<M> {
         self.marks[i / 64] = word;
     }
 
-    #[tactic(auto, using(crate::proofs::Touched::length_touched))]
     fn open_zigzag(&mut self, tick: u64)
         requires kind { M.KIND ≡ Zigzag }
-        requires tick { 0 < tick }
-        requires closed { self.old.closed ≡ true }
-        ensures same { SameWords self.old self.new }
-        ensures marked { self.new.rounds ≡ marked_rounds self.old tick }
+        requires may { (0 < tick) × (self.old.closed ≡ true) }
+        ensures opens { OpensRound self.old tick self.new }
         ensures steps { self.new.steps ≤ self.old.steps + chunks (length self.old.live) + 1 }
-        ensures cells { length self.new.touched ≡ length self.new.live }
     {
         turn_marks(
             &self.table.shared,
@@ -210,12 +196,9 @@ impl<M: Method> Front<M> {
     #[tactic(auto, using(crate::proofs::Touched::length_touched))]
     fn open_ping_pong(&mut self, tick: u64)
         requires kind { M.KIND ≡ PingPong }
-        requires tick { 0 < tick }
-        requires closed { self.old.closed ≡ true }
-        ensures same { SameWords self.old self.new }
-        ensures marked { self.new.rounds ≡ marked_rounds self.old tick }
+        requires may { (0 < tick) × (self.old.closed ≡ true) }
+        ensures opens { OpensRound self.old tick self.new }
         ensures steps { self.new.steps ≡ self.old.steps + 1 }
-        ensures cells { length self.new.touched ≡ length self.new.live }
     {
         store_phase(&self.table.shared, &mut self.seat, tick);
         self.marks.fill(0);

@@ -63,62 +63,37 @@ still_tick : (cell : Taken) (newest : List ℕ) (round : Option Round) → round
 still_tick cell newest None = refl
 still_tick cell newest (Some round) = refl
 
-taken_tick : (cell : Taken) (images : ImageFiles) → round_tick (round_in (with_taken cell images)) ≡ round_tick (round_in images)
-taken_tick cell (NoneYet images) = still_tick cell [] images.round
-taken_tick cell (Newest images) = still_tick cell images.words images.round
-
 pub taken_newest : (cell : Taken) (images : ImageFiles) → newest_in (with_taken cell images) ≡ newest_in images
 taken_newest cell (NoneYet images) = refl
 taken_newest cell (Newest images) = refl
 
-taken_known : (cell : Taken) (images : ImageFiles) → is_known (with_taken cell images) ≡ is_known images
-taken_known cell (NoneYet images) = refl
-taken_known cell (Newest images) = refl
+-- the tick of the open round, the newest image's tick, and whether an image is known
+abbrev seen : Option ℕ → ℕ → Bool → Option ℕ × ℕ × Bool
+seen round newest known = (round, newest, known)
 
-opened_none : (round : Round) (images : ImageFiles) → None ≡ round_tick (round_in (with_opened round images))
-opened_none round (NoneYet images) = refl
-opened_none round (Newest images) = refl
+abbrev seen_of : ImageFiles → Option ℕ × ℕ × Bool
+seen_of images = seen (round_tick (round_in images)) (newest_tick (newest_in images)) (is_known images)
 
-opened_newest : (round : Round) (images : ImageFiles) → round.tick ≡ newest_tick (newest_in (with_opened round images))
-opened_newest round (NoneYet images) = refl
-opened_newest round (Newest images) = refl
+taken_seen : (cell : Taken) (images : ImageFiles) → seen_of (with_taken cell images) ≡ seen_of images
+taken_seen cell (NoneYet images) = ap (λ (t : Option ℕ). seen t (newest_tick (newest_in (NoneYet images))) false) (still_tick cell [] images.round)
+taken_seen cell (Newest images) = ap (λ (t : Option ℕ). seen t (newest_tick (newest_in (Newest images))) true) (still_tick cell images.words images.round)
 
-opened_known : (round : Round) (images : ImageFiles) → true ≡ is_known (with_opened round images)
-opened_known round (NoneYet images) = refl
-opened_known round (Newest images) = refl
+opened_seen : (round : Round) (images : ImageFiles) → seen None round.tick true ≡ seen_of (with_opened round images)
+opened_seen round (NoneYet images) = refl
+opened_seen round (Newest images) = refl
 
-module _ (cells : ℕ) (old new : Content) where
-  round_after : (standing : Standing) (running : List Action) (fate : Fate) (images : ImageFiles) (given : ImageAnswer)
-      (next : ImageFiles) → StepsImages Takes cells images given next old new → standing.round ≡ round_tick (round_in images)
-      → (standing_after standing running (move.Image fate) (answer.Image given)).round ≡ round_tick (round_in next)
-  round_after standing running fate images given_.Idle next s e = e ∙ ap (λ i. round_tick (round_in i)) (sym s.1)
-  round_after standing running fate images given_.Working next s e = elim s.2 [
-    | inl same ↦ e ∙ ap (λ i. round_tick (round_in i)) (sym same.0)
-    | inr cell ↦ e ∙ sym (taken_tick cell.0 images) ∙ ap (λ i. round_tick (round_in i)) (sym cell.2)
-  ]
-  round_after standing running fate images (given_.Opened tick) next s e = opened_none s.0 images ∙ ap (λ i. round_tick (round_in i)) (sym s.4)
-  round_after standing running fate images given_.Down next s e = e ∙ ap (λ i. round_tick (round_in i)) (sym s.2)
-
-  newest_after : (standing : Standing) (running : List Action) (fate : Fate) (images : ImageFiles) (given : ImageAnswer)
-      (next : ImageFiles) → StepsImages Takes cells images given next old new → standing.newest ≡ newest_tick (newest_in images)
-      → (standing_after standing running (move.Image fate) (answer.Image given)).newest ≡ newest_tick (newest_in next)
-  newest_after standing running fate images given_.Idle next s e = e ∙ ap (λ i. newest_tick (newest_in i)) (sym s.1)
-  newest_after standing running fate images given_.Working next s e = elim s.2 [
-    | inl same ↦ e ∙ ap (λ i. newest_tick (newest_in i)) (sym same.0)
-    | inr cell ↦ e ∙ ap newest_tick (sym (taken_newest cell.0 images)) ∙ ap (λ i. newest_tick (newest_in i)) (sym cell.2)
-  ]
-  newest_after standing running fate images (given_.Opened tick) next s e = s.2 ∙ opened_newest s.0 images ∙ ap (λ i. newest_tick (newest_in i)) (sym s.4)
-  newest_after standing running fate images given_.Down next s e = e ∙ ap (λ i. newest_tick (newest_in i)) (sym s.2)
-
-  known_after : (known : Bool) (images : ImageFiles) (given : ImageAnswer) (next : ImageFiles)
-      → StepsImages Takes cells images given next old new → known ≡ is_known images → (opens (answer.Image given) || known) ≡ is_known next
-  known_after known images given_.Idle next s e = e ∙ ap is_known (sym s.1)
-  known_after known images given_.Working next s e = elim s.2 [
-    | inl same ↦ e ∙ ap is_known (sym same.0)
-    | inr cell ↦ e ∙ sym (taken_known cell.0 images) ∙ ap is_known (sym cell.2)
-  ]
-  known_after known images (given_.Opened tick) next s e = opened_known s.0 images ∙ ap is_known (sym s.4)
-  known_after known images given_.Down next s e = e ∙ ap is_known (sym s.2)
+-- a step changes these as its answer says
+seen_after : (cells : ℕ) (old new : Content) (standing : Standing) (running : List Action) (fate : Fate) (known : Bool) (images : ImageFiles) (given : ImageAnswer)
+    (next : ImageFiles) → StepsImages Takes cells images given next old new → seen standing.round standing.newest known ≡ seen_of images
+    → seen (standing_after standing running (move.Image fate) (answer.Image given)).round
+    (standing_after standing running (move.Image fate) (answer.Image given)).newest (opens (answer.Image given) || known) ≡ seen_of next
+seen_after cells old new standing running fate known images given_.Idle next s e = e ∙ ap seen_of (sym s.1)
+seen_after cells old new standing running fate known images given_.Working next s e = elim s.2 [
+  | inl same ↦ e ∙ ap seen_of (sym same.0)
+  | inr cell ↦ e ∙ sym (taken_seen cell.0 images) ∙ ap seen_of (sym cell.2)
+]
+seen_after cells old new standing running fate known images (given_.Opened tick) next s e = ap (λ (t : ℕ). seen None t true) s.2 ∙ opened_seen s.0 images ∙ ap seen_of (sym s.4)
+seen_after cells old new standing running fate known images given_.Down next s e = e ∙ ap seen_of (sym s.2)
 
 -- ---- the step
 
@@ -140,8 +115,8 @@ image_keeps laws past old new fate given c d =
     let steps : StepsImages Takes old.cells c.images given s.0 old.content new.content = subst (λ n. StepsImages Takes n c.images given s.0 old.content new.content) c.keeper_cells s.2 in
     let steps_zeros : StepsImages Takes (length (replicate old.cells 0)) c.images given s.0 old.content new.content = subst
     (λ n. StepsImages Takes n c.images given s.0 old.content new.content) (sym (length-replicate old.cells 0)) steps in
-    let round = round_after old.cells old.content new.content past.standing past.history.running fate c.images given s.0 steps c.reported.round in
-    let newest = newest_after old.cells old.content new.content past.standing past.history.running fate c.images given s.0 steps c.reported.newest in
+    let after_seen = seen_after old.cells old.content new.content past.standing past.history.running fate past.has_image c.images given s.0 steps
+    (λ k. seen (c.reported.round k) (c.reported.newest k) (c.reported.is_image_known k)) in
     let st = image_standing past.standing past.history.running fate given in
     let k = c.counted in
     let live = step_live old.cells old.content new.content c.images given s.0 steps in
@@ -163,12 +138,12 @@ image_keeps laws past old new fate given c d =
       in_step = laws.goes_on.image_step (replicate old.cells 0) past.history.ticks past.acknowledged c.images c.place.journal old.queue given s.0 old.content new.content steps_zeros c.in_step;
       at_rest = c.at_rest;
       reported = record {
-        is_image_known = known_after old.cells old.content new.content past.has_image c.images given s.0 steps c.reported.is_image_known;
+        is_image_known = ap (λ (x : Option ℕ × ℕ × Bool). x.2) after_seen;
         start_left = st.start_left ∙ c.reported.start_left;
         image_down = down_after past.standing past.history.running fate old.images.phase new.images.phase given d.down d.stays_down c.reported.image_down;
         log_down = st.log_down ∙ c.reported.log_down;
-        round = round;
-        newest = newest;
+        round = ap (λ (x : Option ℕ × ℕ × Bool). x.0) after_seen;
+        newest = ap (λ (x : Option ℕ × ℕ × Bool). x.1) after_seen;
       };
     } in
     subst (IsCoreAt after) (sym d.rest) is

@@ -26,9 +26,6 @@ pub record SoFar (asked : Move) (idle : Answer) (most left : ℕ) (past : Past) 
   pub runs : Runs past old (replicate (length front) asked) front now
   pub stands : IsCoreAt (past_of past (replicate (length front) asked) front) now
 
-pub none_yet : (asked : Move) (idle : Answer) (most : ℕ) (past : Past) (old : State) → IsCoreAt past old → SoFar asked idle most most past old idle old
-none_yet asked idle most past old c = record { front = []; going = tt; reported_is = refl; few = omega arith; runs = refl; stands = c }
-
 reported_more : (reported : Answer) (front : List Answer) (given : Answer) → reported_by (reported_of reported front) given ≡ reported_of reported (front ++ given ∷ [])
 reported_more reported [] given = refl
 reported_more reported (first ∷ front) given = reported_more (reported_by reported first) front given

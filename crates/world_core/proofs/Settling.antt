@@ -26,7 +26,7 @@ use Rattle.world_core.specs.Facts.{IsCoreAt}
 use Rattle.world_core.specs.Headline.{Answers, Runs}
 use Rattle.world_core.specs.Repeating.{reported_of, IsReportedAtEnd, Repeats, RepeatsImages, RepeatsLog, ImagesSettled, LogSettled, StartSettled}
 use Rattle.world_core.proofs.Headline.{past_of-more}
-use Rattle.world_core.proofs.Repeating.{replicate_more}
+use Rattle.world_core.proofs.Repeating.{SoFar, Stepped, step_ends, replicate_more}
 use Rattle.world_core.proofs.LogExact.{no_work}
 
 -- ---- the last move
@@ -74,11 +74,21 @@ images_end fate (answer.Log log_answer.Idle) reported result past old new is a =
 images_end fate (answer.Log log_answer.Down) reported result past old new is a = absurd a.exact
 images_end fate last reported result past old new is a = absurd is
 
-pub images_settle : (fate : Fate) (past : Past) (old : State) (reported : ImageAnswer) (next : Past) (new : State) → RepeatsImages fate past old reported next new → ImagesSettled next.standing
+images_settle : (fate : Fate) (past : Past) (old : State) (reported : ImageAnswer) (next : Past) (new : State) → RepeatsImages fate past old reported next new → ImagesSettled next.standing
 images_settle fate past old reported next new r =
     let l = last_of (move.Image fate) (answer.Image image_answer.Idle) (left_of old.images) past old (answer.Image reported) next new r in
     subst (λ (p : Past). ImagesSettled p.standing) (sym l.next_is)
     (images_end fate r.all.last (reported_of (answer.Image image_answer.Idle) r.all.front) (answer.Image reported) l.mid_past l.mid new r.all.reported l.one)
+
+-- the same, from the moves before the last one
+pub images_ended : (fate : Fate) (past : Past) (old : State) (reported : ImageAnswer) (now : State) (given : ImageAnswer) (next : State) (result : ImageAnswer)
+    → SoFar (move.Image fate) (answer.Image image_answer.Idle) (left_of old.images) (left_of now.images) past old (answer.Image reported) now
+    → Stepped (move.Image fate) now (answer.Image given) next → IsReportedAtEnd (answer.Image given) (answer.Image reported) (answer.Image result)
+    → (after : Past) × RepeatsImages fate past old result after next × ImagesSettled after.standing
+images_ended fate past old reported now given next result before step is =
+    let e = step_ends (move.Image fate) (answer.Image image_answer.Idle) (left_of old.images) (left_of now.images) past old (answer.Image reported) now before
+    (answer.Image given) next step (answer.Image result) is in
+    (e.0, e.1, images_settle fate past old result e.0 next e.1)
 
 -- ---- the log keeper
 
@@ -127,11 +137,20 @@ log_end fate (answer.Image image_answer.Idle) reported result past old new c is 
 log_end fate (answer.Image image_answer.Down) reported result past old new c is a = absurd a.exact
 log_end fate last reported result past old new c is a = absurd is
 
-pub log_settles : (fate : Fate) (past : Past) (old : State) (reported : LogAnswer) (next : Past) (new : State) → RepeatsLog fate past old reported next new → LogSettled next.standing new
+log_settles : (fate : Fate) (past : Past) (old : State) (reported : LogAnswer) (next : Past) (new : State) → RepeatsLog fate past old reported next new → LogSettled next.standing new
 log_settles fate past old reported next new r =
     let l = last_of (move.Log fate) (answer.Log log_answer.Idle) (work_of old.log old.queue) past old (answer.Log reported) next new r in
     subst (λ (p : Past). LogSettled p.standing new) (sym l.next_is)
     (log_end fate r.all.last (reported_of (answer.Log log_answer.Idle) r.all.front) (answer.Log reported) l.mid_past l.mid new (subst (λ p. IsCoreAt p new) l.next_is r.on.stands) r.all.reported l.one)
+
+pub log_ended : (fate : Fate) (past : Past) (old : State) (reported : LogAnswer) (now : State) (given : LogAnswer) (next : State) (result : LogAnswer)
+    → SoFar (move.Log fate) (answer.Log log_answer.Idle) (work_of old.log old.queue) (work_of now.log now.queue) past old (answer.Log reported) now
+    → Stepped (move.Log fate) now (answer.Log given) next → IsReportedAtEnd (answer.Log given) (answer.Log reported) (answer.Log result)
+    → (after : Past) × RepeatsLog fate past old result after next × LogSettled after.standing next
+log_ended fate past old reported now given next result before step is =
+    let e = step_ends (move.Log fate) (answer.Log log_answer.Idle) (work_of old.log old.queue) (work_of now.log now.queue) past old (answer.Log reported) now before
+    (answer.Log given) next step (answer.Log result) is in
+    (e.0, e.1, log_settles fate past old result e.0 next e.1)
 
 -- ---- the start
 

@@ -2,7 +2,8 @@ use Rattle.std.proofs.Common.{arith, sym, ap, ◌∙◌, ◌≡◌, ℕ, List, �
 use Rattle.batches.specs.declared.batch.Request.{Request}
 use Rattle.batches.specs.declared.batch.Request.TheVariants.{Act}
 use Rattle.world_actions.specs.declared.action.Action.TheVariants.{Set}
-use Rattle.batches.specs.Answer.{Play, begun, reply, replies}
+use Rattle.batches.specs.declared.requests.Answer.{Answer}
+use Rattle.batches.specs.Answer.{begun, text_of, reply, replies}
 use Rattle.batches.proofs.AnswerLemmas.{replies_next, has_run_next}
 use Rattle.batches.proofs.answer.answer_text.Goals as goal
 
@@ -16,23 +17,21 @@ text_more head number replies reply text now all one before more =
 
 pub loop-request-preserved : goal.loop-request-preserved
 loop-request-preserved g c =
-    let words = g.C.Cells.words c.args.c.now in
     let requests = c.requests-requests.result.now in
     let i = c.loop-request.request-index in
-    let below = c.loop-request-test.true in
-    let inv = c.loop-request.invariant in
-    let play : Play = record { words = g.C.Cells.words c.loop-request.c; accepted = c.loop-request.t.list } in
     let first : Request = Act (Set 0 0) in
-    let request = get_or requests i first in
     let put = c.put_reply.ensures in
+    let did = c.run_request.ensures in
+    let inv = c.loop-request.invariant in
+    let before = replies (begun (g.C.Cells.words c.args.c.now)) (take i requests) in
     record {
-      run =
-          has_run_next g.C.Cells.words g.C.Cells.accessed c.args.c.now requests i first c.loop-request.c c.put_reply.new.c
-          c.loop-request.t c.put_reply.new.t below inv.run put.after put.writes put.tick_room put.one;
+      run = has_run_next _ _ _ requests i first _ _ _ _ c.loop-request-test.true inv.run did.after did.writes did.tick_room did.one;
       text =
           rw (add-one)
-          (text_more (codes "tick ") (decimal c.args.number) (replies (begun words) (take i requests)) (32 ∷ reply play request) _
-          _ _ put.text inv.text (replies_next (begun words) requests i first below ∙ ap (λ p. replies (begun words) (take i requests) ++ (32 ∷ reply p request)) (sym inv.run.now)));
+          (text_more (codes "tick ") (decimal c.args.number) before (32 ∷ text_of c.run_request.result) _ _ _ put.text inv.text
+          (replies_next (begun (g.C.Cells.words c.args.c.now)) requests i first c.loop-request-test.true
+          ∙ ap (λ p. before ++ (32 ∷ reply p (get_or requests i first))) (sym inv.run.now)
+          ∙ ap (λ (a : Answer). before ++ (32 ∷ text_of a)) (sym did.answer)));
       short = (let e = put.few in omega (arith, e, inv.short));
       room = (let e = put.room in omega (arith, e, inv.room));
     }

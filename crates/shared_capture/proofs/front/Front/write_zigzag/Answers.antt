@@ -30,7 +30,11 @@ invariant_of-self g c =
       λ e. (listed, omega (arith, (c.self.invariant.1 e).1, c.list_change.ensures.room)),
     )
 
-pub returns-clause-touched : goal.returns-clause-touched
-returns-clause-touched g c =
-    zigzag_touched _ _ _ _ c.store_value.new.seat _ _ _ _ c.self.invariant.0 _ c.args.i c.args.v c.has_bit-second.result
-    c.requires.kind c.store_value.ensures ∙ ap (λ (w : FrontState). set w.touched c.args.i true) c.self.view_is
+pub returns-clause-put : goal.returns-clause-put
+returns-clause-put g c = record {
+  live = search rules;
+  touched = zigzag_touched _ _ _ _ c.store_value.new.seat _ _ _ _ c.self.invariant.0 _ c.args.i c.args.v c.has_bit-second.result
+      c.requires.kind c.store_value.ensures ∙ ap (λ (w : FrontState). set w.touched c.args.i true) c.self.view_is;
+  same = search rules;
+  steps = search rules;
+}

@@ -3,84 +3,41 @@ use Rattle.action_log.specs.declared.answer.LogAnswer.TheVariants as log_answer
 use Rattle.action_log.specs.Progress.{work_of}
 use Rattle.world_core.specs.declared.moves.Move.TheVariants as move
 use Rattle.world_core.specs.declared.moves.Answer.TheVariants as answer
-use Rattle.world_core.proofs.Repeating.{SoFar, as_log, step_goes_on, step_ends}
-use Rattle.world_core.proofs.Settling.{log_settles}
+use Rattle.world_core.proofs.Repeating.{SoFar, as_log, step_goes_on}
+use Rattle.world_core.proofs.Settling.{log_ended}
 use Rattle.world_core.proofs.world_core.Core.run_log.Goals as goal
 
 pub returns-in-Idle : goal.returns-in-Idle
 returns-in-Idle g c = record {
-  repeats = λ past h.
-      (let e = step_ends (move.Log c.args.fate) (answer.Log log_answer.Idle) (work_of c.args.self.now.log c.args.self.now.queue)
-      (work_of c.loop-reported.self.log c.loop-reported.self.queue) past c.args.self.now (answer.Log c.loop-reported.reported) c.loop-reported.self (c.loop-reported.invariant past h)
-      (answer.Log log_answer.Idle) c.log-given.new.self
-      (as_log c.args.fate c.loop-reported.self c.log-given.new.self c.log-given.result
-      log_answer.Idle (record {
-        keeps = c.log-given.ensures.keeps;
-        exact = c.log-given.ensures.exact;
-        does = c.log-given.ensures.does;
-        progress = c.log-given.ensures.progress;
-      }) c.in-Idle.is) (answer.Log c.loop-reported.reported) refl in
-      (e.0, e.1, log_settles c.args.fate past c.args.self.now c.loop-reported.reported e.0 c.log-given.new.self e.1));
+  repeats = λ past h. log_ended c.args.fate past c.args.self.now c.loop-reported.reported c.loop-reported.self log_answer.Idle c.log-given.new.self c.loop-reported.reported
+      (c.loop-reported.invariant past h) (as_log c.args.fate c.loop-reported.self c.log-given.new.self c.log-given.result log_answer.Idle
+      (record { keeps = c.log-given.ensures.keeps; exact = c.log-given.ensures.exact; does = c.log-given.ensures.does; progress = c.log-given.ensures.progress }) c.in-Idle.is) refl;
 }
 
 pub returns-in-Down : goal.returns-in-Down
 returns-in-Down g c = record {
-  repeats = λ past h.
-      (let e = step_ends (move.Log c.args.fate) (answer.Log log_answer.Idle) (work_of c.args.self.now.log c.args.self.now.queue)
-      (work_of c.loop-reported.self.log c.loop-reported.self.queue) past c.args.self.now (answer.Log c.loop-reported.reported) c.loop-reported.self (c.loop-reported.invariant past h)
-      (answer.Log log_answer.Down) c.log-given.new.self
-      (as_log c.args.fate c.loop-reported.self c.log-given.new.self c.log-given.result
-      log_answer.Down (record {
-        keeps = c.log-given.ensures.keeps;
-        exact = c.log-given.ensures.exact;
-        does = c.log-given.ensures.does;
-        progress = c.log-given.ensures.progress;
-      }) c.in-Down.is) (answer.Log c.log-given.result) (ap (λ r. answer.Log r) c.in-Down.is) in
-      (e.0, e.1, log_settles c.args.fate past c.args.self.now c.log-given.result e.0 c.log-given.new.self e.1));
+  repeats = λ past h. log_ended c.args.fate past c.args.self.now c.loop-reported.reported c.loop-reported.self log_answer.Down c.log-given.new.self c.log-given.result
+      (c.loop-reported.invariant past h) (as_log c.args.fate c.loop-reported.self c.log-given.new.self c.log-given.result log_answer.Down
+      (record { keeps = c.log-given.ensures.keeps; exact = c.log-given.ensures.exact; does = c.log-given.ensures.does; progress = c.log-given.ensures.progress }) c.in-Down.is)
+      (ap (λ r. answer.Log r) c.in-Down.is);
 }
 
 pub loop-reported-preserved-in-Working : goal.loop-reported-preserved-in-Working
 loop-reported-preserved-in-Working g c =
+    let step = as_log c.args.fate c.loop-reported.self c.log-given.new.self c.log-given.result log_answer.Working
+    (record { keeps = c.log-given.ensures.keeps; exact = c.log-given.ensures.exact; does = c.log-given.ensures.does; progress = c.log-given.ensures.progress }) c.in-Working.is in
     λ past h.
-    step_goes_on (move.Log c.args.fate) (answer.Log log_answer.Idle) (work_of c.args.self.now.log c.args.self.now.queue)
-    (work_of c.loop-reported.self.log c.loop-reported.self.queue) past c.args.self.now (answer.Log c.loop-reported.reported) c.loop-reported.self (c.loop-reported.invariant past h)
-    (answer.Log log_answer.Working) c.log-given.new.self
-    (as_log c.args.fate c.loop-reported.self c.log-given.new.self c.log-given.result
-    log_answer.Working (record {
-      keeps = c.log-given.ensures.keeps;
-      exact = c.log-given.ensures.exact;
-      does = c.log-given.ensures.does;
-      progress = c.log-given.ensures.progress;
-    }) c.in-Working.is) (work_of c.log-given.new.self.log c.log-given.new.self.queue) tt
-    (as_log c.args.fate c.loop-reported.self c.log-given.new.self c.log-given.result
-    log_answer.Working (record {
-      keeps = c.log-given.ensures.keeps;
-      exact = c.log-given.ensures.exact;
-      does = c.log-given.ensures.does;
-      progress = c.log-given.ensures.progress;
-    }) c.in-Working.is).progress
+    step_goes_on (move.Log c.args.fate) (answer.Log log_answer.Idle) (work_of c.args.self.now.log c.args.self.now.queue) (work_of c.loop-reported.self.log c.loop-reported.self.queue)
+    past c.args.self.now (answer.Log c.loop-reported.reported) c.loop-reported.self (c.loop-reported.invariant past h) (answer.Log log_answer.Working) c.log-given.new.self step
+    (work_of c.log-given.new.self.log c.log-given.new.self.queue) tt step.progress
 
 pub loop-reported-preserved : goal.loop-reported-preserved
 loop-reported-preserved g c =
+    let step = as_log c.args.fate c.loop-reported.self c.log-given.new.self c.log-given.result (log_answer.Acked c.in-Acked.field-0)
+    (record { keeps = c.log-given.ensures.keeps; exact = c.log-given.ensures.exact; does = c.log-given.ensures.does; progress = c.log-given.ensures.progress }) c.in-Acked.is in
     λ past h.
-    subst
-    (λ r.
-    SoFar (move.Log c.args.fate) (answer.Log log_answer.Idle) (work_of c.args.self.now.log c.args.self.now.queue)
+    subst (λ r. SoFar (move.Log c.args.fate) (answer.Log log_answer.Idle) (work_of c.args.self.now.log c.args.self.now.queue)
     (work_of c.log-given.new.self.log c.log-given.new.self.queue) past c.args.self.now (answer.Log r) c.log-given.new.self) (sym c.in-Acked.is)
-    (step_goes_on (move.Log c.args.fate) (answer.Log log_answer.Idle) (work_of c.args.self.now.log c.args.self.now.queue)
-    (work_of c.loop-reported.self.log c.loop-reported.self.queue) past c.args.self.now (answer.Log c.loop-reported.reported) c.loop-reported.self (c.loop-reported.invariant past h)
-    (answer.Log (log_answer.Acked c.in-Acked.field-0)) c.log-given.new.self
-    (as_log c.args.fate c.loop-reported.self c.log-given.new.self c.log-given.result
-    (log_answer.Acked c.in-Acked.field-0) (record {
-      keeps = c.log-given.ensures.keeps;
-      exact = c.log-given.ensures.exact;
-      does = c.log-given.ensures.does;
-      progress = c.log-given.ensures.progress;
-    }) c.in-Acked.is) (work_of c.log-given.new.self.log c.log-given.new.self.queue) tt
-    (as_log c.args.fate c.loop-reported.self c.log-given.new.self c.log-given.result
-    (log_answer.Acked c.in-Acked.field-0) (record {
-      keeps = c.log-given.ensures.keeps;
-      exact = c.log-given.ensures.exact;
-      does = c.log-given.ensures.does;
-      progress = c.log-given.ensures.progress;
-    }) c.in-Acked.is).progress)
+    (step_goes_on (move.Log c.args.fate) (answer.Log log_answer.Idle) (work_of c.args.self.now.log c.args.self.now.queue) (work_of c.loop-reported.self.log c.loop-reported.self.queue)
+    past c.args.self.now (answer.Log c.loop-reported.reported) c.loop-reported.self (c.loop-reported.invariant past h) (answer.Log (log_answer.Acked c.in-Acked.field-0)) c.log-given.new.self step
+    (work_of c.log-given.new.self.log c.log-given.new.self.queue) tt step.progress)
