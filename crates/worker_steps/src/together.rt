@@ -166,7 +166,8 @@ impl<M: Method, D: Disk + Drop, A: Gate + Drop, B: Gate + Drop, C: Gate + Drop> 
         ensures posted { self.new.log_writer.answers.posted
             ≤ acknowledged_by self.new.checkpointer self.new.log_writer }
         ensures in_turn { PlaysInTurn self.new.mutator.asks.taken self.new.mutator.to.items }
-        ensures meets { Meets (workers_of self.old.mutator self.old.checkpointer self.old.log_writer)
+        ensures meets { Meets
+            (workers_of self.old.mutator self.old.checkpointer self.old.log_writer)
             (workers_of self.new.mutator self.new.checkpointer self.new.log_writer) }
         ensures mutator { KeepsFront self.old.mutator self.new.mutator }
         ensures checkpointer { KeepsBack self.old.checkpointer self.new.checkpointer }
