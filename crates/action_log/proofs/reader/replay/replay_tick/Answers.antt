@@ -1,6 +1,5 @@
 use Rattle.std.proofs.lemmas.Result.{err_from_is_err_and}
 use Rattle.std.proofs.Common.{◌++◌, ◌∷◌, [], ◌∙◌, refl, sym, arith}
-use Rattle.action_log.specs.Reading.{action_at}
 use Rattle.action_log.proofs.ReplayLemmas.{done_then, none_at, tick_stops}
 use Rattle.action_log.proofs.ValueReadingLemmas.{read_start, read_next, read_none, read_all}
 use Rattle.action_log.proofs.reader.replay.replay_tick.Goals as goal
@@ -9,16 +8,14 @@ pub returns-in_default-clause-refused : goal.returns-in_default-clause-refused
 returns-in_default-clause-refused g c = (refl, λ tick rest e. none_at (c.in_default.ensures.none c.args.format) e)
 
 pub loop-init : goal.loop-init
-loop-init g c = record { tick = []; read = read_start (action_at c.args.format) c.in-Some.count c.in-Some.rest.now; done = refl }
+loop-init g c = record { tick = []; read = read_start; done = refl }
 
 pub returns-in_default-read_action-clause-refused : goal.returns-in_default-read_action-clause-refused
 returns-in_default-read_action-clause-refused g c =
     let so_far = c.loop.invariant in (
       refl,
       λ tick rest e.
-          none_at
-          (c.in-Some.ensures.some c.args.format ∙ read_none (action_at c.args.format) c.in-Some.count c.loop.counter so_far.tick
-          c.in-Some.rest.now c.loop.rest.now (omega (arith, c.loop-test.true)) (sym c.in_default-read_action.ensures) so_far.read) e,
+          none_at (c.in-Some.ensures.some c.args.format ∙ read_none so_far.read (omega (arith, c.loop-test.true)) (sym c.in_default-read_action.ensures)) e,
     )
 
 pub returns-in_err-replay-clause-refused : goal.returns-in_err-replay-clause-refused
@@ -39,9 +36,7 @@ loop-preserved g c =
     let so_far = c.loop.invariant in
     let action = c.in-Some-read_action.action in record {
       tick = so_far.tick ++ action ∷ [];
-      read =
-          read_next (action_at c.args.format) c.in-Some.count c.loop.counter so_far.tick c.in-Some.rest.now c.loop.rest.now
-          c.in-Some-read_action.next.now action (omega (arith, c.loop-test.true)) (sym c.in-Some-read_action.ensures) so_far.read;
+      read = read_next so_far.read (omega (arith, c.loop-test.true)) (sym c.in-Some-read_action.ensures);
       done = done_then (g.C.Cells.words c.args.c.now) (g.C.Cells.words c.loop.c) (g.C.Cells.words c.replay.new.c) so_far.tick (action ∷ []) so_far.done c.in_ok-replay.ensures.done;
     }
 
@@ -49,7 +44,6 @@ pub returns-clause-done : goal.returns-clause-done
 returns-clause-done g c =
     let so_far = c.loop.invariant in (
       so_far.tick,
-      c.in-Some.ensures.some c.args.format ∙ read_all (action_at c.args.format) c.in-Some.count c.loop.counter so_far.tick
-          c.in-Some.rest.now c.loop.rest.now (omega (arith, c.loop-test.false)) so_far.read,
+      c.in-Some.ensures.some c.args.format ∙ read_all so_far.read (omega (arith, c.loop-test.false)),
       so_far.done,
     )
