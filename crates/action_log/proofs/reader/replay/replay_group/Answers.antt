@@ -13,14 +13,12 @@ loop-init g c = record { ticks = []; read = read_start; done = refl }
 pub returns-in_err-rest-clause-refused : goal.returns-in_err-rest-clause-refused
 returns-in_err-rest-clause-refused g c =
     let p = err_from_is_err_and c.from_residual.result c.from_residual.ensures.1 in
-    let so_far = c.loop.invariant in
     let refused = c.in_err-rest.ensures.refused in
     rw (p.1, p.2) (
       refused.0,
       λ ticks rest e.
-          group_stops c.args.format c.in-Some.count c.loop.counter so_far.ticks c.in-Some.rest.now c.loop.rest.now
-          (g.C.Cells.words c.args.c.now) (g.C.Cells.words c.loop.c) (omega (arith, c.loop-test.true)) so_far.read so_far.done
-          refused.1 ticks rest (sym (c.in-Some.ensures.some c.args.format) ∙ e),
+          group_stops c.args.format (g.C.Cells.words c.args.c.now) (omega (arith, c.loop-test.true)) c.loop.invariant.read
+          c.loop.invariant.done refused.1 ticks rest (sym (c.in-Some.ensures.some c.args.format) ∙ e),
     )
 
 pub loop-preserved : goal.loop-preserved
@@ -34,8 +32,4 @@ loop-preserved g c =
 
 pub returns-clause-done : goal.returns-clause-done
 returns-clause-done g c =
-    let so_far = c.loop.invariant in (
-      so_far.ticks,
-      c.in-Some.ensures.some c.args.format ∙ read_all so_far.read (omega (arith, c.loop-test.false)),
-      so_far.done,
-    )
+    (c.loop.invariant.ticks, c.in-Some.ensures.some c.args.format ∙ read_all c.loop.invariant.read (omega (arith, c.loop-test.false)), c.loop.invariant.done)

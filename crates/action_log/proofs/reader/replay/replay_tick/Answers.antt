@@ -12,11 +12,8 @@ loop-init g c = record { tick = []; read = read_start; done = refl }
 
 pub returns-in_default-read_action-clause-refused : goal.returns-in_default-read_action-clause-refused
 returns-in_default-read_action-clause-refused g c =
-    let so_far = c.loop.invariant in (
-      refl,
-      λ tick rest e.
-          none_at (c.in-Some.ensures.some c.args.format ∙ read_none so_far.read (omega (arith, c.loop-test.true)) (sym c.in_default-read_action.ensures)) e,
-    )
+    let none = read_none c.loop.invariant.read (omega (arith, c.loop-test.true)) (sym c.in_default-read_action.ensures) in
+    (refl, λ tick rest e. none_at (c.in-Some.ensures.some c.args.format ∙ none) e)
 
 pub returns-in_err-replay-clause-refused : goal.returns-in_err-replay-clause-refused
 returns-in_err-replay-clause-refused g c =
@@ -26,9 +23,8 @@ returns-in_err-replay-clause-refused g c =
     rw (p.1, p.2) (
       refused.0,
       λ tick rest e.
-          tick_stops c.args.format c.in-Some.count c.loop.counter so_far.tick c.in-Some.rest.now c.loop.rest.now c.in-Some-read_action.next.now
-          c.in-Some-read_action.action (g.C.Cells.words c.args.c.now) (g.C.Cells.words c.loop.c) (omega (arith, c.loop-test.true))
-          (sym c.in-Some-read_action.ensures) so_far.read so_far.done refused.1 tick rest (sym (c.in-Some.ensures.some c.args.format) ∙ e),
+          tick_stops c.args.format (g.C.Cells.words c.args.c.now) (omega (arith, c.loop-test.true)) (sym c.in-Some-read_action.ensures)
+          so_far.read so_far.done refused.1 tick rest (sym (c.in-Some.ensures.some c.args.format) ∙ e),
     )
 
 pub loop-preserved : goal.loop-preserved
@@ -42,8 +38,4 @@ loop-preserved g c =
 
 pub returns-clause-done : goal.returns-clause-done
 returns-clause-done g c =
-    let so_far = c.loop.invariant in (
-      so_far.tick,
-      c.in-Some.ensures.some c.args.format ∙ read_all so_far.read (omega (arith, c.loop-test.false)),
-      so_far.done,
-    )
+    (c.loop.invariant.tick, c.in-Some.ensures.some c.args.format ∙ read_all c.loop.invariant.read (omega (arith, c.loop-test.false)), c.loop.invariant.done)
