@@ -61,7 +61,16 @@ returns-clause-read g c honest =
     record {
       front = record {
         first = all ∙ ap (λ n. take n file) (sym c.in_ok-read_forward-2.ensures.longer.0);
-        gate = λ some. omega (arith, some, end, header_end, c.in_ok-read_forward-2.ensures.longer.0, c.in_ok-read_forward.ensures.longer.0, ap length c.deref.ensures.value, c.image_end-end.ensures.least);
+        gate = λ some. omega (
+          arith,
+          some,
+          end,
+          header_end,
+          c.in_ok-read_forward-2.ensures.longer.0,
+          c.in_ok-read_forward.ensures.longer.0,
+          ap length c.deref.ensures.value,
+          c.image_end-end.ensures.least,
+        );
       };
       reads = ap image_of (all ∙ ap (λ n. take n file) end ∙ take_min c.image_end-end.result file) ∙ c.image_end-end.ensures.counts file head;
     }
