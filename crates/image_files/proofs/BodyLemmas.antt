@@ -257,6 +257,12 @@ pub on_err : {T E P Q : Type 0} (r : Result T E) → (P → Q) → OnErr r P →
 on_err (Ok value) f is = tt
 on_err (Err error) f is = f is
 
+-- the claim of a known phase
+pub claim_at : {keeper : Progress} {phase : Phase} {before : Image} {file newest : List ℕ} {outcomes beside : List ℕ → Type 0} → keeper.phase ≡ phase
+    → Endures keeper before file newest outcomes beside → TargetEndures phase keeper before file newest outcomes
+claim_at {keeper = keeper} {before = before} {file = file} {newest = newest} {outcomes = outcomes} is stood =
+    subst (λ (p : Phase). TargetEndures p keeper before file newest outcomes) is stood.of_target
+
 -- the keeper goes on to the next phase, or goes down if the call failed
 module _ (call : Result (Unit {0}) Refusal) (given : ImageAnswer) (old new : Progress) (next : Phase)
     (ok : OnOk call ((given ≡ answer.Working) × (new ≡ record old { phase = next }))) (failed : OnErr call ((given ≡ answer.Down) × (new ≡ record old { phase = Down }))) where
@@ -270,11 +276,11 @@ module _ (call : Result (Unit {0}) Refusal) (given : ImageAnswer) (old new : Pro
       by_call (Err _) done failed one other = subst (λ (g : ImageAnswer). IfOpened g Q (P new)) (sym failed.0) (subst P (sym failed.1) other)
 
   -- the newest image's file stays
-  pub follow_endures : (before : Image) (file file_after newest : List ℕ) (outcomes outcomes_after beside : List ℕ → Type 0) → Endures old before file newest outcomes beside
-      → OnOk call (TargetEndures next (record old { phase = next }) before file_after newest outcomes_after)
+  pub follow_endures : (file_after : List ℕ) (outcomes_after : List ℕ → Type 0) {before : Image} {file newest : List ℕ} {outcomes beside : List ℕ → Type 0}
+      → Endures old before file newest outcomes beside → OnOk call (TargetEndures next (record old { phase = next }) before file_after newest outcomes_after)
       → OnErr call (TargetEndures Down (record old { phase = Down }) before file_after newest outcomes_after)
       → IfOpened given (Endures new (image_of newest) newest file_after beside outcomes_after) (Endures new before file_after newest outcomes_after beside)
-  follow_endures before file file_after newest outcomes outcomes_after beside stood one other =
+  follow_endures file_after outcomes_after {before = before} {newest = newest} {beside = beside} stood one other =
       followed (λ (p : Progress). Endures p before file_after newest outcomes_after beside) (Endures new (image_of newest) newest file_after beside outcomes_after)
       (on_ok call (in_phase_now next) one) (on_err call (in_phase_now Down) other)
     where

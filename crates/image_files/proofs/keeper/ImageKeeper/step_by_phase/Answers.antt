@@ -1,11 +1,10 @@
-use Rattle.std.proofs.Common.{◌≡◌, ℕ, List, drop, sym, ◌∙◌, ap, subst, rules}
+use Rattle.std.proofs.Common.{◌≡◌, ℕ, List, drop, sym, ◌∙◌, ap, rules}
 use Rattle.std.specs.Prelude.{OnOk, OnErr}
 use Rattle.image_files.specs.declared.phase.Phase.TheVariants.{Taking, ClosingSync, Opening, OpeningSync, Down}
-use Rattle.image_files.specs.declared.phase.Phase.{Phase}
 use Rattle.image_files.specs.Image.{image_of}
 use Rattle.image_files.specs.Progress.{Progress, done}
 use Rattle.image_files.specs.Keeper.{Fits, TargetEndures}
-use Rattle.image_files.proofs.BodyLemmas.{opened_endures, opening_fits, opening_endures, opening_down, done_behind, on_ok, on_err, followed, follow_endures}
+use Rattle.image_files.proofs.BodyLemmas.{opened_endures, opening_fits, opening_endures, opening_down, done_behind, on_ok, on_err, claim_at, followed, follow_endures}
 use Rattle.image_files.proofs.TakeLemmas.{take_fits, take_endures, take_word}
 use Rattle.image_files.proofs.keeper.ImageKeeper.step_by_phase.Goals as goal
 
@@ -63,32 +62,8 @@ returns-in-Opening-clause-done g c not_taking honest =
 pub returns-in-Closing-clause-endures : goal.returns-in-Closing-clause-endures
 unfolding image_of
 returns-in-Closing-clause-endures g c honest before endures =
-    let k = c.args.self.now in
-    let file = g.D.Disk.content c.args.target.now in
-    let new = g.D.Disk.content c.write_at.new.self in
-    let newest = g.D.Disk.content c.args.newest.now in
-    let after = g.D.Disk.may_leave c.write_at.new.self in
-    let phase = ap (λ (k : Progress). k.phase) (sym c.self.view_is) ∙ c.in-Closing.is in
-    let stood = subst (λ (p : Phase). TargetEndures p k before file newest (g.D.Disk.may_leave c.args.target.now)) phase endures.of_target in
-    let one : OnOk c.write_at.result (TargetEndures ClosingSync (record k { phase = ClosingSync }) before new newest after) = search rules in
-    let other : OnErr c.write_at.result (TargetEndures Down (record k { phase = Down }) before new newest after) = search rules in
-    follow_endures c.write_at.result c.follow.result k c.follow.new.self ClosingSync c.follow.ensures.ok c.follow.ensures.failed
-    before file new newest _ after _ endures one other
-
-pub returns-in-BodySync-clause-endures : goal.returns-in-BodySync-clause-endures
-unfolding image_of
-returns-in-BodySync-clause-endures g c honest before endures =
-    let k = c.args.self.now in
-    let file = g.D.Disk.content c.args.target.now in
-    let new = g.D.Disk.content c.sync.new.self in
-    let newest = g.D.Disk.content c.args.newest.now in
-    let after = g.D.Disk.may_leave c.sync.new.self in
-    let phase = ap (λ (k : Progress). k.phase) (sym c.self.view_is) ∙ c.in-BodySync.is in
-    let stood = subst (λ (p : Phase). TargetEndures p k before file newest (g.D.Disk.may_leave c.args.target.now)) phase endures.of_target in
-    let one : OnOk c.sync.result (TargetEndures Opening (record k { phase = Opening }) before new newest after) = search rules in
-    let other : OnErr c.sync.result (TargetEndures Down (record k { phase = Down }) before new newest after) = search rules in
-    follow_endures c.sync.result c.follow-in-BodySync.result k c.follow-in-BodySync.new.self Opening c.follow-in-BodySync.ensures.ok c.follow-in-BodySync.ensures.failed
-    before file new newest _ after _ endures one other
+    let stood = claim_at (ap (λ (k : Progress). k.phase) (sym c.self.view_is) ∙ c.in-Closing.is) endures in
+    follow_endures c.write_at.result c.follow.result c.args.self.now _ ClosingSync c.follow.ensures.ok c.follow.ensures.failed _ _ endures (search (rules, stood)) (search (rules, stood))
 
 pub returns-in-Opening-clause-endures : goal.returns-in-Opening-clause-endures
 returns-in-Opening-clause-endures g c honest before endures =
@@ -108,4 +83,11 @@ returns-in-Opening-clause-endures g c honest before endures =
     let other : OnErr call (TargetEndures Down (record k { phase = Down }) before new newest after) =
     on_err call (λ torn. opening_down k file newest phase fits new torn.after outcomes after crash before endures.of_target) (c.write_at-in-Opening.ensures.torn honest) in
     follow_endures call c.follow-in-Opening.result k c.follow-in-Opening.new.self OpeningSync c.follow-in-Opening.ensures.ok c.follow-in-Opening.ensures.failed
-    before file new newest outcomes after _ endures one other
+    new after endures one other
+
+pub returns-in-BodySync-clause-endures : goal.returns-in-BodySync-clause-endures
+unfolding image_of
+returns-in-BodySync-clause-endures g c honest before endures =
+    let stood = claim_at (ap (λ (k : Progress). k.phase) (sym c.self.view_is) ∙ c.in-BodySync.is) endures in
+    let made = c.follow-in-BodySync.ensures in
+    follow_endures c.sync.result c.follow-in-BodySync.result c.args.self.now _ Opening made.ok made.failed _ _ endures (search (rules, stood)) (search (rules, stood))
