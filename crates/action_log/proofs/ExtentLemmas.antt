@@ -1,5 +1,5 @@
 -- How far the groups of a segment go, and what the first bytes of a segment say of all of it.
-use Rattle.std.proofs.Common.{◌≡◌, ◌≢◌, ◌⊎◌, inl, inr, ℕ, ◌+◌, ◌-◌, ◌*◌, ◌<◌, ◌≤◌, min, Bool, true, false, List, [], ◌∷◌, ◌++◌}
+use Rattle.std.proofs.Common.{◌≡◌, ◌≢◌, inl, inr, ℕ, ◌+◌, ◌-◌, ◌*◌, ◌<◌, ◌≤◌, min, Bool, true, false, List, [], ◌∷◌, ◌++◌}
 use Rattle.std.proofs.Common.{length, get_or, take, drop, Some, None, refl, sym, ap, subst, ◌∙◌, append_assoc, arith}
 use Rattle.std.specs.List.{flat_map, AllByRecursion}
 use Rattle.std.proofs.lemmas.Bool.Decides.{eqb_tells}
@@ -181,11 +181,7 @@ has_furthest bytes format base done rest mark leads other_format other_base grou
     (has_body bytes other_format other_base groups other has)
     (within_most base (length (joined groups)) has.few (omega (arith, has.numbered, same_base)))
 
--- no groups without a header that is open, a mark, or a base within its bound
-pub none_closed : (bytes : List ℕ) → (length bytes < HEADER_BYTES) ⊎ (get_or bytes 0 0 ≢ OPEN_GATE) → HasNoGroups bytes
-none_closed bytes (inl short) format base groups rest has = omega (arith, short, has.long)
-none_closed bytes (inr gate) format base groups rest has = gate (ap (λ (l : List ℕ). get_or l 0 0) has.spelled)
-
+-- no groups without a mark, or without a base within its bound
 pub none_unmarked : (bytes : List ℕ) → marked_in bytes ≡ None → HasNoGroups bytes
 none_unmarked bytes none format base groups rest has = (let mark = has_mark bytes format base groups rest has in absurd cc)
 

@@ -1,5 +1,5 @@
 -- The ticks in front of a queue, and the steps that its records need.
-use Rattle.std.proofs.Common.{◌≡◌, ◌⊎◌, inl, inr, Bool, ℕ, zero, suc, ◌+◌, ◌*◌, ◌<◌, ◌≤◌, List, [], ◌∷◌, ◌++◌, length, take, drop, refl, sym, ap, subst, ◌∙◌, arith, zero-add}
+use Rattle.std.proofs.Common.{◌≡◌, ◌⊎◌, inl, inr, ℕ, zero, suc, ◌+◌, ◌*◌, ◌<◌, ◌≤◌, List, [], ◌∷◌, ◌++◌, length, take, drop, refl, sym, ap, subst, ◌∙◌, arith, zero-add}
 use Rattle.std.specs.Prelude.{slice_get, get_or, Some, None}
 use Rattle.world_ticks.specs.Tick.{Actions}
 use Rattle.world_ticks.specs.declared.tick.TheConstants.{TICK_MAX}
@@ -9,8 +9,6 @@ use Rattle.action_log.specs.declared.record.Record.TheVariants as records
 use Rattle.action_log.specs.Segment.{Tick}
 use Rattle.action_log.specs.declared.phase.Phase.{Phase}
 use Rattle.action_log.specs.declared.phase.Phase.TheVariants.{Retiring, RetiringSync, Ready, BodySync, Gate, GateSync, Closing, ClosingSync, Header, HeaderSync, Opening, OpeningSync}
-use Rattle.disk_model.specs.Disk.{Call}
-use Rattle.action_log.specs.Calls.{CallsCurrent, CallsOther, CallsFor, CallsIn}
 use Rattle.action_log.specs.Progress.{QueueFollowsIn, end_in}
 use Rattle.action_log.specs.Queue.{group_of, ticks_before, StandBefore, queue_work, QueueFits, queue_end}
 use Rattle.action_log.specs.Steps.{StartsWith}
@@ -169,22 +167,3 @@ pub queue_work_push : (queue : List Record) (i : ℕ) (first : Record) → i < l
     → queue_work (take (i + 1) queue) ≡ queue_work (take i queue) + queue_work (first ∷ [])
 queue_work_push queue i first lt is =
     let e : suc i ≡ i + 1 = omega arith in subst (λ (m : ℕ). queue_work (take m queue) ≡ queue_work (take i queue) + queue_work (first ∷ [])) e (work_push queue i first lt is)
-
--- ---- the call for the record in front
-
-module _ {D : Type 0} (called : D → Call → Bool → D → Type 0) (current current' other other' : D) where
-  pub calls_none : (queue : List Record) → queue ≡ [] → (current' ≡ current) × (other' ≡ other) → CallsFor called current current' other other' queue
-  calls_none queue none same = subst (CallsFor called current current' other other') (sym none) same
-
-  pub calls_group : (n : ℕ) (queue : List Record) → 1 ≤ length (group_of n queue) → CallsCurrent called current current' other other' → CallsFor called current current' other other' queue
-  calls_group zero queue some call = absurd (omega (arith, some))
-  calls_group (suc n) [] some call = absurd (omega (arith, some))
-  calls_group (suc n) (records.Switch tick ∷ queue) some call = absurd (omega (arith, some))
-  calls_group (suc n) (records.Tick tick ∷ queue) some call = call
-
-  pub calls_switch : (tick : ℕ) (queue rest : List Record) → queue ≡ records.Switch tick ∷ rest → CallsOther called current current' other other' → CallsFor called current current' other other' queue
-  calls_switch tick queue rest is call = subst (CallsFor called current current' other other') (sym is) call
-
-  -- by the phase
-  pub calls_in : (phase now : Phase) (queue : List Record) → now ≡ phase → CallsIn called current current' other other' phase queue → CallsIn called current current' other other' now queue
-  calls_in phase now queue is call = subst (λ (p : Phase). CallsIn called current current' other other' p queue) (sym is) call

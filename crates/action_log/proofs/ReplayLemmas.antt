@@ -1,7 +1,6 @@
 -- Ticks that are replayed while they are read.
-use Rattle.std.proofs.Common.{◌≡◌, ℕ, length, ◌-◌, ◌+◌, ◌<◌, List, [], ◌∷◌, ◌++◌, Option, Some, None, Result, Ok, Err, refl, sym, ap, subst, ◌∙◌, append_assoc}
+use Rattle.std.proofs.Common.{◌≡◌, ℕ, length, ◌-◌, ◌+◌, ◌<◌, List, [], ◌∷◌, ◌++◌, Option, Some, None, Result, Ok, Err, refl, sym, ap, subst, ◌∙◌}
 use Rattle.std.specs.Prelude.{IsErr, OnOk, IfErr}
-use Rattle.std.specs.List.{flat_map}
 use Rattle.std.proofs.lemmas.Grind.{flat_map-append}
 use Rattle.std.proofs.lemmas.List.{append-nil}
 use Rattle.world_actions.specs.declared.action.Action.{Action}
@@ -14,7 +13,7 @@ use Rattle.file_format.specs.declared.format.Format.{Format}
 use Rattle.action_log.specs.Segment.{Tick, joined, IsOpenSegment}
 use Rattle.action_log.specs.declared.reader.HeldTicks.{HeldTicks}
 use Rattle.action_log.specs.HeldLog.{or_none, ticks_in, AreHeld}
-use Rattle.action_log.specs.Reading.{◌>>=◌, Reader, action_at, tick_at, group_at, several_at, groups_of, ticks_of}
+use Rattle.action_log.specs.Reading.{Reader, action_at, tick_at, group_at, several_at, groups_of, ticks_of}
 use Rattle.action_log.specs.TickList.{actions_of}
 use Rattle.action_log.proofs.ValueReadingLemmas.{AreRead, read_next, read_none, bind_some, found_is, no_value}
 use Rattle.action_log.proofs.GroupLemmas.{joined_with}
@@ -84,26 +83,26 @@ pub read_further : {X : Type 0} (one : Reader X) (many counter : ℕ) (values : 
 read_further {X = X} one many counter values bytes rest all end more r e = go (one rest) refl
   where
     go : (o : Option (X × List ℕ)) → one rest ≡ o → (x : X) × (next : List ℕ) × (one rest ≡ Some (x, next)) × ((more : List X) × ((values ++ x ∷ []) ++ more ≡ all))
-    go None is = absurd (no_value (all, end) (sym (read_none one many counter values bytes rest more is r) ∙ e))
+    go None is = absurd (no_value (all, end) (sym (read_none r more is) ∙ e))
     go (Some p) is =
-        (p.0, p.1, is, read_prefix one many (counter + 1) (values ++ p.0 ∷ []) bytes p.1 all end (read_next one many counter values bytes rest p.1 p.0 more is r) e)
+        (p.0, p.1, is, read_prefix one many (counter + 1) (values ++ p.0 ∷ []) bytes p.1 all end (read_next r more is) e)
 
 -- an action that is read and refused: each tick of these bytes is refused
-pub tick_stops : (format : Format) (many counter : ℕ) (tick : Tick) (bytes rest next : List ℕ) (action : Action) (world words : List ℕ)
+pub tick_stops : (format : Format) (world : List ℕ) {many counter : ℕ} {tick : Tick} {bytes rest next words : List ℕ} {action : Action}
     → counter < many → action_at format rest ≡ Some (action, next) → AreRead (action_at format) many counter tick bytes rest
     → after_actions world tick ≡ Ok words → IsErr (after_actions words (action ∷ []))
     → (all : Tick) (end : List ℕ) → several_at (action_at format) many bytes ≡ Some (all, end) → IsErr (after_actions world all)
-tick_stops format many counter tick bytes rest next action world words more here r done refused all end e =
+tick_stops format world {many = many} {counter = counter} {tick = tick} {bytes = bytes} {next = next} {words = words} {action = action} more here r done refused all end e =
     let p = read_prefix (action_at format) many (counter + 1) (tick ++ action ∷ []) bytes next all end
-    (read_next (action_at format) many counter tick bytes rest next action more here r) e in
+    (read_next r more here) e in
     subst (λ l. IsErr (after_actions world l)) p.1 (refused_then world words tick (action ∷ []) p.0 done refused)
 
 -- a tick that is refused: all ticks of these bytes are refused
-pub group_stops : (format : Format) (many counter : ℕ) (ticks : List Tick) (bytes rest : List ℕ) (world words : List ℕ)
+pub group_stops : (format : Format) (world : List ℕ) {many counter : ℕ} {ticks : List Tick} {bytes rest words : List ℕ}
     → counter < many → AreRead (tick_at format) many counter ticks bytes rest → after_actions world (actions_of ticks) ≡ Ok words
     → ((tick : Tick) (next : List ℕ) → tick_at format rest ≡ Some (tick, next) → IsErr (after_actions words tick))
     → (all : List Tick) (end : List ℕ) → several_at (tick_at format) many bytes ≡ Some (all, end) → IsErr (after_actions world (actions_of all))
-group_stops format many counter ticks bytes rest world words more r done refused all end e =
+group_stops format world {many = many} {counter = counter} {ticks = ticks} {bytes = bytes} {rest = rest} {words = words} more r done refused all end e =
     let p = read_further (tick_at format) many counter ticks bytes rest all end more r e in
     let here : IsErr (after_actions words (actions_of (p.0 ∷ []))) = subst (λ l. IsErr (after_actions words l)) (sym (actions_one p.0)) (refused p.0 p.1 p.2) in
     subst (λ l. IsErr (after_actions world (actions_of l))) p.3.1 (ticks_refused world words ticks (p.0 ∷ []) p.3.0 done here)

@@ -124,10 +124,6 @@ added_tick tick a b e f end actions is ends = record {
   ends_are = ends ∙ ap (λ k. e ++ k ∷ []) (is ∙ ap length actions ∙ length-append a tick);
 }
 
--- items that are added to an empty list
-pub added_list : (ticks : List Tick) (actions : List Action) (ends : List ℕ) → AreAdded ticks [] [] actions ends → IsListOf ticks actions ends
-added_list ticks actions ends added = record { actions_are = added.actions_are; ends_are = added.ends_are }
-
 -- the number of actions
 pub length-actions_of-append : (xs ys : List Tick) → length (actions_of (xs ++ ys)) ≡ length (actions_of xs) + length (actions_of ys)
 length-actions_of-append xs ys = ap length (actions_of-append xs ys) ∙ length-append (actions_of xs) (actions_of ys)

@@ -154,8 +154,8 @@ pub record AreRead {X : Type 0} (one : Reader X) (many counter : ℕ) (values : 
   pub all : several_at one many bytes ≡ onto_all values (several_at one (many - counter) rest)
 
 -- no value is read yet
-pub read_start : {X : Type 0} (one : Reader X) (many : ℕ) (bytes : List ℕ) → AreRead one many 0 [] bytes bytes
-read_start {X = X} one many bytes =
+pub read_start : {X : Type 0} {one : Reader X} {many : ℕ} {bytes : List ℕ} → AreRead one many 0 [] bytes bytes
+read_start {X = X} {one = one} {many = many} {bytes = bytes} =
     let left : many ≡ many - 0 = omega arith in
     record {
       so_many = refl;
@@ -168,23 +168,23 @@ read_start {X = X} one many bytes =
     go (Some others) = refl
 
 -- one more is read
-pub read_next : {X : Type 0} (one : Reader X) (many counter : ℕ) (values : List X) (bytes rest next : List ℕ) (x : X)
-    → counter < many → one rest ≡ Some (x, next) → AreRead one many counter values bytes rest → AreRead one many (counter + 1) (values ++ x ∷ []) bytes next
-read_next one many counter values bytes rest next x more e r = record {
+pub read_next : {X : Type 0} {one : Reader X} {many counter : ℕ} {values : List X} {bytes rest next : List ℕ} {x : X}
+    → AreRead one many counter values bytes rest → counter < many → one rest ≡ Some (x, next) → AreRead one many (counter + 1) (values ++ x ∷ []) bytes next
+read_next {one = one} {many = many} {counter = counter} {values = values} {rest = rest} {next = next} {x = x} r more e = record {
   so_many = omega (arith, length-append values (x ∷ []), r.so_many);
   within = omega (arith, more);
   all = r.all ∙ several_next one values (many - counter) (many - (counter + 1)) rest next x (omega (arith, more)) e;
 }
 
 -- no further one is read
-pub read_none : {X : Type 0} (one : Reader X) (many counter : ℕ) (values : List X) (bytes rest : List ℕ) → counter < many
-    → one rest ≡ None → AreRead one many counter values bytes rest → several_at one many bytes ≡ None
-read_none one many counter values bytes rest more e r = r.all ∙ several_none one values (many - counter) rest (omega (arith, more)) e
+pub read_none : {X : Type 0} {one : Reader X} {many counter : ℕ} {values : List X} {bytes rest : List ℕ}
+    → AreRead one many counter values bytes rest → counter < many → one rest ≡ None → several_at one many bytes ≡ None
+read_none {one = one} {many = many} {counter = counter} {values = values} {rest = rest} r more e = r.all ∙ several_none one values (many - counter) rest (omega (arith, more)) e
 
 -- all are read
-pub read_all : {X : Type 0} (one : Reader X) (many counter : ℕ) (values : List X) (bytes rest : List ℕ) → many ≤ counter
-    → AreRead one many counter values bytes rest → several_at one many bytes ≡ Some (values, rest)
-read_all one many counter values bytes rest last r = r.all ∙ several_all one values (many - counter) rest (omega (arith, last))
+pub read_all : {X : Type 0} {one : Reader X} {many counter : ℕ} {values : List X} {bytes rest : List ℕ}
+    → AreRead one many counter values bytes rest → many ≤ counter → several_at one many bytes ≡ Some (values, rest)
+read_all {one = one} {many = many} {counter = counter} {values = values} {rest = rest} r last = r.all ∙ several_all one values (many - counter) rest (omega (arith, last))
 
 -- no count is read
 pub counted_none : {X : Type 0} (one : Reader X) (least most : ℕ) (bytes : List ℕ) → None ≡ number_at 2 bytes → counted_at one least most bytes ≡ None

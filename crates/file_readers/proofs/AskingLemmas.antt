@@ -23,11 +23,16 @@ module _ {S : Type 0} (called : S → Call → Bool → S → Type 0) where
   asked_read most old between new at count asked within (inl same) = subst (λ (s : S). OnlyAsked called most old s) (let back : between ≡ new = cc in back) asked
   asked_read most old between new at count asked within (inr made) = asked_more most old between new (Read at count) made.0 asked within made.1
 
+  -- the length, then one more read or none
+  pub asked_first : (most : ℕ) (old len new : S) (known : Bool) (at count : ℕ) → called old Length known len → at + count ≤ most
+      → (new ≡ len) ⊎ ((succeeded : Bool) × called len (Read at count) succeeded new) → OnlyAsked called most old new
+  asked_first most old len new known at count made = asked_read most old len new at count (asked_more most old old len Length known (asked_none most old) tt made)
+
   wider : (most further calls : ℕ) (old new : S) → most ≤ further → AreAsked called most calls old new → AreAsked called further calls old new
   wider most further zero old new le asked = asked
   wider most further (suc calls) old new le asked = (asked.0, wider most further calls old asked.0 le asked.1, (asked.2.0, asked.2.1, asks_wider most further asked.2.0 le asked.2.2, asked.2.3))
 
-  asked_wider : (most further : ℕ) (old new : S) → most ≤ further → OnlyAsked called most old new → OnlyAsked called further old new
+  pub asked_wider : (most further : ℕ) (old new : S) → most ≤ further → OnlyAsked called most old new → OnlyAsked called further old new
   asked_wider most further old new le asked = (asked.0, wider most further asked.0 old new le asked.1)
 
   -- one more read, or none, and a wider bound

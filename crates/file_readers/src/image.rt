@@ -35,32 +35,12 @@ pub fn read_image_file<D: Disk>(alloc: Global, disk: &mut D) -> Result<Vec<u8>, 
     ensures refused { IfErr result (λ refusal.
         (refusal ≡ Refusal.Device) ⊎ (refusal ≡ Refusal.NoMemory)) }
 {
-    let mut bytes = Vec::new(alloc);
-    read_image_into(disk, &mut bytes)?;
-    Ok(bytes)
-}
-
-// Reads an image file as far as its bytes count, into an empty list.
-fn read_image_into<D: Disk>(disk: &mut D, bytes: &mut Vec<u8>) -> Result<(), Refusal>
-    requires { bytes.old.items ≡ [] }
-    ensures read { IsTrue D.honest
-        → OnOk result (IsImageRead (D.content disk.old) bytes.new.items) }
-    ensures exact { OnOk result
-        ((tick : ℕ) (words : List ℕ) → image_of bytes.new.items ≡ Image.Open tick words
-        → length bytes.new.items ≡ HEADER_BYTES + WORD_BYTES * length words) }
-    ensures most { OnOk result (length bytes.new.items ≤ IMAGE_BYTES_MAX) }
-    ensures asked { OnlyAsked D.called IMAGE_BYTES_MAX disk.old disk.new }
-    ensures no_further { OnOk result
-        (OnlyAsked D.called (length bytes.new.items) disk.old disk.new) }
-    ensures kept { IsTrue D.honest → KeepsFile D.content D.may_leave disk.old disk.new }
-    ensures faults { D.faults disk.new ≡ counted_device (D.faults disk.old) result }
-    ensures refused { IfErr result (λ refusal.
-        (refusal ≡ Refusal.Device) ⊎ (refusal ≡ Refusal.NoMemory)) }
-{
     let len = disk.len()?;
-    read_forward(disk, bytes, len.min(HEADER_BYTES as u64) as usize)?;
-    let end = image_end(bytes) as u64;
-    read_forward(disk, bytes, len.min(end) as usize)
+    let mut bytes = Vec::new(alloc);
+    read_forward(disk, &mut bytes, len.min(HEADER_BYTES as u64) as usize)?;
+    let end = image_end(&bytes) as u64;
+    read_forward(disk, &mut bytes, len.min(end) as usize)?;
+    Ok(bytes)
 }
 
 // Returns how many bytes of an image file count at most, by its first ones: a header, or all bytes

@@ -34,34 +34,14 @@ pub fn read_segment_file<D: Disk>(alloc: Global, disk: &mut D) -> Result<Vec<u8>
     ensures refused { IfErr result (λ refusal.
         (refusal ≡ Refusal.Device) ⊎ (refusal ≡ Refusal.NoMemory)) }
 {
-    let mut bytes = Vec::new(alloc);
-    read_segment_into(disk, &mut bytes)?;
-    Ok(bytes)
-}
-
-// Reads a segment file as far as its bytes count, into an empty list.
-fn read_segment_into<D: Disk>(disk: &mut D, bytes: &mut Vec<u8>) -> Result<(), Refusal>
-    requires { bytes.old.items ≡ [] }
-    ensures read { IsTrue D.honest
-        → OnOk result (IsSegmentRead (D.content disk.old) bytes.new.items) }
-    ensures exact { OnOk result ((base : ℕ) (ticks : List (List Action))
-        → (segment : IsOpenSegment bytes.new.items base ticks) → length segment.rest ≤ 1) }
-    ensures most { OnOk result (length bytes.new.items ≤ SEGMENT_BYTES_MAX) }
-    ensures asked { OnlyAsked D.called SEGMENT_BYTES_MAX disk.old disk.new }
-    ensures no_further { OnOk result
-        (OnlyAsked D.called (max PIECE_BYTES (2 * length bytes.new.items)) disk.old disk.new) }
-    ensures kept { IsTrue D.honest → KeepsFile D.content D.may_leave disk.old disk.new }
-    ensures faults { D.faults disk.new ≡ counted_device (D.faults disk.old) result }
-    ensures refused { IfErr result (λ refusal.
-        (refusal ≡ Refusal.Device) ⊎ (refusal ≡ Refusal.NoMemory)) }
-{
     let most = disk.len()?.min(SEGMENT_BYTES_MAX as u64) as usize;
+    let mut bytes = Vec::new(alloc);
     let mut end = most.min(PIECE_BYTES);
     loop {
-        read_forward(disk, bytes, end)?;
-        if let Some(count) = counting(bytes, most) {
+        read_forward(disk, &mut bytes, end)?;
+        if let Some(count) = counting(&bytes, most) {
             bytes.truncate(count);
-            return Ok(());
+            return Ok(bytes);
         }
         end = most.min(2 * end);
     }

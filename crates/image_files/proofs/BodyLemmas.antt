@@ -2,7 +2,9 @@
 use Rattle.std.proofs.Common.{◌≡◌, ◌⊎◌, inl, inr, ⊎_elim, Some, ℕ, zero, suc, ◌+◌, ◌-◌, ◌^◌, ◌<◌, ◌≤◌, List, [], ◌∷◌, ◌++◌}
 use Rattle.std.proofs.Common.{IsTrue, length, get_or, take, drop, refl, sym, ◌∙◌, ap, subst, arith, length-append}
 use Rattle.std.proofs.lemmas.List.{append-nil, append_assoc, drop-drop, length-take}
+use Rattle.std.specs.Prelude.{Result, Ok, Err, OnOk, OnErr}
 use Rattle.std.specs.List.{list_all}
+use Rattle.world_actions.specs.declared.refusal.Refusal.{Refusal}
 use Rattle.disk_model.specs.Disk.{Torn, Follows, Within, Only, overwritten}
 use Rattle.disk_model.proofs.TornLemmas.{torn_opening}
 use Rattle.file_format.specs.Gate.{HasShutGate}
@@ -12,6 +14,8 @@ use Rattle.file_format.proofs.FormatLemmas.{unmarked-marked_of}
 use Rattle.file_format.specs.Number.{number_of, number_bytes}
 use Rattle.file_format.proofs.NumberLemmas.{length-number_bytes}
 use Rattle.capture_core.specs.declared.taker.Taken.{Taken}
+use Rattle.image_files.specs.declared.answer.ImageAnswer.{ImageAnswer}
+use Rattle.image_files.specs.declared.answer.ImageAnswer.TheVariants as answer
 use Rattle.image_files.specs.declared.phase.Phase.{Phase}
 use Rattle.image_files.specs.declared.phase.Phase.TheVariants.{Header, Taking, Opening, OpeningSync, Down}
 use Rattle.image_files.specs.Image.{Image, image_of, header_bytes, cells_of, cells_in, tick_in, number_at, words_from, is_word}
@@ -19,7 +23,7 @@ use Rattle.image_files.specs.Taken.{filled_words}
 use Rattle.image_files.specs.Images.{IsTarget}
 use Rattle.image_files.specs.Progress.{Progress, IsInOrder, PhaseFits, done, newest_words, opened_keeper}
 use Rattle.image_files.specs.Keeper.{HasBody, Fits, TargetFits, TargetEndures, Endures}
-use Rattle.image_files.specs.Steps.{IsOpenedImage}
+use Rattle.image_files.specs.Steps.{IsOpenedImage, IfOpened}
 use Rattle.image_files.proofs.WordLemmas.{number_written, length-words_from}
 use Rattle.image_files.proofs.SpellingLemmas.{cells_found, marked_fits, whole_reads, open_file}
 use Rattle.image_files.proofs.GateLemmas.{shut_reads_closed}
@@ -241,3 +245,45 @@ opened_endures keeper old newest new words before beside after tick read image s
   newest_not_shut = λ not_shut. inr (open_file new tick words image.image).gate;
   of_target = (stood.newest_stays, refl, stood.newest_not_shut);
 }
+
+-- ---- a call that is the whole step
+
+-- facts of a call that succeeded, or of one that failed
+pub on_ok : {T E P Q : Type 0} (r : Result T E) → (P → Q) → OnOk r P → OnOk r Q
+on_ok (Ok value) f is = f is
+on_ok (Err error) f is = tt
+
+pub on_err : {T E P Q : Type 0} (r : Result T E) → (P → Q) → OnErr r P → OnErr r Q
+on_err (Ok value) f is = tt
+on_err (Err error) f is = f is
+
+-- the claim of a known phase
+pub claim_at : {keeper : Progress} {phase : Phase} {before : Image} {file newest : List ℕ} {outcomes beside : List ℕ → Type 0} → keeper.phase ≡ phase
+    → Endures keeper before file newest outcomes beside → TargetEndures phase keeper before file newest outcomes
+claim_at {keeper = keeper} {before = before} {file = file} {newest = newest} {outcomes = outcomes} is stood =
+    subst (λ (p : Phase). TargetEndures p keeper before file newest outcomes) is stood.of_target
+
+-- the keeper goes on to the next phase, or goes down if the call failed
+module _ (call : Result (Unit {0}) Refusal) (given : ImageAnswer) (old new : Progress) (next : Phase)
+    (ok : OnOk call ((given ≡ answer.Working) × (new ≡ record old { phase = next }))) (failed : OnErr call ((given ≡ answer.Down) × (new ≡ record old { phase = Down }))) where
+  pub followed : (P : Progress → Type 0) (Q : Type 0) → OnOk call (P (record old { phase = next })) → OnErr call (P (record old { phase = Down })) → IfOpened given Q (P new)
+  followed P Q = by_call call ok failed
+    where
+      by_call : (r : Result (Unit {0}) Refusal) → OnOk r ((given ≡ answer.Working) × (new ≡ record old { phase = next }))
+          → OnErr r ((given ≡ answer.Down) × (new ≡ record old { phase = Down }))
+          → OnOk r (P (record old { phase = next })) → OnErr r (P (record old { phase = Down })) → IfOpened given Q (P new)
+      by_call (Ok _) done failed one other = subst (λ (g : ImageAnswer). IfOpened g Q (P new)) (sym done.0) (subst P (sym done.1) one)
+      by_call (Err _) done failed one other = subst (λ (g : ImageAnswer). IfOpened g Q (P new)) (sym failed.0) (subst P (sym failed.1) other)
+
+  -- the newest image's file stays
+  pub follow_endures : (file_after : List ℕ) (outcomes_after : List ℕ → Type 0) {before : Image} {file newest : List ℕ} {outcomes beside : List ℕ → Type 0}
+      → Endures old before file newest outcomes beside → OnOk call (TargetEndures next (record old { phase = next }) before file_after newest outcomes_after)
+      → OnErr call (TargetEndures Down (record old { phase = Down }) before file_after newest outcomes_after)
+      → IfOpened given (Endures new (image_of newest) newest file_after beside outcomes_after) (Endures new before file_after newest outcomes_after beside)
+  follow_endures file_after outcomes_after {before = before} {newest = newest} {beside = beside} stood one other =
+      followed (λ (p : Progress). Endures p before file_after newest outcomes_after beside) (Endures new (image_of newest) newest file_after beside outcomes_after)
+      (on_ok call (in_phase_now next) one) (on_err call (in_phase_now Down) other)
+    where
+      in_phase_now : (phase : Phase) → TargetEndures phase (record old { phase = phase }) before file_after newest outcomes_after
+          → Endures (record old { phase = phase }) before file_after newest outcomes_after beside
+      in_phase_now phase claim = record { newest_stays = stood.newest_stays; newest_not_shut = stood.newest_not_shut; of_target = claim }

@@ -9,7 +9,7 @@ ghost use Rattle.image_files.specs.declared.phase.Phase.TheVariants.{Idle, Closi
 ghost use Rattle.image_files.specs.Image.{Image, image_of};
 ghost use Rattle.image_files.specs.Images.{ImageFiles, StepsImages};
 ghost use Rattle.image_files.specs.Progress.{target_of, done, cells_taken, left_of, made_keeper};
-ghost use Rattle.image_files.specs.Progress.{begun_keeper, opened_keeper};
+ghost use Rattle.image_files.specs.Progress.{begun_keeper, opened_keeper, IsInOrder};
 ghost use Rattle.image_files.specs.Keeper.{Fits, Endures};
 ghost use Rattle.image_files.specs.Files.{done_in, FitsFiles, DisksStand};
 ghost use Rattle.image_files.specs.Steps.{IfOpened, OnOpened, OnWorking, CallsIn, closed, TookWord};
@@ -22,7 +22,7 @@ use crate::format::WORD_BYTES;
 use crate::phase::Phase;
 use capture_core::{Taken, Taker};
 use disk_model::Disk;
-use file_format::Slot;
+use file_format::{CLOSED_GATE, OPEN_GATE, Slot};
 use std::alloc::Global;
 use std::marker::Model;
 use world_actions::Refusal;
@@ -339,7 +339,9 @@ impl ImageKeeper {
     {
         match self.phase {
             Phase::Idle => ImageAnswer::Idle,
-            Phase::Closing => answer(self.close(target)),
+            Phase::Closing => {
+                self.follow(target.write_at(0, &[CLOSED_GATE]), Phase::ClosingSync)
+            }
             Phase::ClosingSync => answer(self.close_durably(target)),
             Phase::Header => answer(self.write_header(target)),
             Phase::Taking => {
@@ -348,13 +350,33 @@ impl ImageKeeper {
             }
             Phase::Reading => answer(self.read_chunk(newest)),
             Phase::Writing => answer(self.write_chunk(target)),
-            Phase::BodySync => answer(self.sync_body(target)),
-            Phase::Opening => answer(self.open_gate(target)),
+            Phase::BodySync => self.follow(target.sync(), Phase::Opening),
+            Phase::Opening => self.follow(target.write_at(0, &[OPEN_GATE]), Phase::OpeningSync),
             Phase::OpeningSync => match self.finish(target) {
                 Ok(tick) => ImageAnswer::Opened(tick),
                 Err(_) => ImageAnswer::Down,
             },
             Phase::Down => ImageAnswer::Down,
+        }
+    }
+
+    // Goes on to this phase after a call of a device, or goes down if the call failed.
+    fn follow(&mut self, call: Result<(), Refusal>, next: Phase) -> ImageAnswer
+        requires in_order { IsInOrder (record self.old { phase = next }) }
+        ensures ok { OnOk call
+            ((result ≡ ImageAnswer.Working) × (self.new ≡ record self.old { phase = next })) }
+        ensures failed { OnErr call
+            ((result ≡ ImageAnswer.Down) × (self.new ≡ record self.old { phase = Down })) }
+    {
+        match call {
+            Ok(()) => {
+                self.phase = next;
+                ImageAnswer::Working
+            }
+            Err(_) => {
+                self.go_down();
+                ImageAnswer::Down
+            }
         }
     }
 

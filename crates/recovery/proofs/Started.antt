@@ -39,20 +39,7 @@ start_round_begins first ticks acknowledged images next from start some s below 
       last = s.last;
       accepted = s.accepted;
       images_follow = record { newest = s.images_follow.newest; before = s.images_follow.before; round = (below, λ full. absurd (omega (arith, full, some))) };
-      start_follows =
-          record {
-            whole = f.whole;
-            ahead = f.ahead;
-            ends = f.ends;
-            replays = f.replays;
-            a_formed = f.a_formed;
-            b_formed = f.b_formed;
-            a_begins = f.a_begins;
-            b_begins = f.b_begins;
-            acknowledges = f.acknowledges;
-            image = f.image;
-            round = refl;
-          };
+      start_follows = record { leads = f.leads; acknowledges = f.acknowledges; image = f.image; round = refl };
     } in
     subst (λ i. IsStarting first ticks acknowledged i from start) same begun
 
@@ -67,20 +54,7 @@ start_words first ticks acknowledged images from start round taken s some of =
       last = s.last;
       accepted = s.accepted;
       images_follow = record { newest = s.images_follow.newest; before = s.images_follow.before; round = of };
-      start_follows =
-          record {
-            whole = f.whole;
-            ahead = f.ahead;
-            ends = f.ends;
-            replays = f.replays;
-            a_formed = f.a_formed;
-            b_formed = f.b_formed;
-            a_begins = f.a_begins;
-            b_begins = f.b_begins;
-            acknowledges = f.acknowledges;
-            image = f.image;
-            round = at;
-          };
+      start_follows = record { leads = f.leads; acknowledges = f.acknowledges; image = f.image; round = at };
     }
 
 start_opened : (first : List ℕ) (ticks : List (List Action)) (acknowledged : ℕ) (images : Images) (from : ℕ) (start : Start) (round : Round)
@@ -94,20 +68,7 @@ start_opened first ticks acknowledged images from start round s some whole =
       last = s.last;
       accepted = s.accepted;
       images_follow = opened_follows first ticks images round s.images_follow of whole;
-      start_follows =
-          record {
-            whole = f.whole;
-            ahead = f.ahead;
-            ends = f.ends;
-            replays = f.replays;
-            a_formed = f.a_formed;
-            b_formed = f.b_formed;
-            a_begins = f.a_begins;
-            b_begins = f.b_begins;
-            acknowledges = omega (arith, f.acknowledges, at);
-            image = inl at;
-            round = tt;
-          };
+      start_follows = record { leads = f.leads; acknowledges = omega (arith, f.acknowledges, at); image = inl at; round = tt };
     }
 
 module _ {S : Type 0} (took : S → Option Taken → S → Type 0) where
@@ -138,20 +99,7 @@ start_log_begins first ticks acknowledged images from start s at =
       last = s.last;
       accepted = s.accepted;
       images_follow = s.images_follow;
-      start_follows =
-          record {
-            whole = f.whole;
-            ahead = f.ahead;
-            ends = f.ends;
-            replays = f.replays;
-            a_formed = f.a_formed;
-            b_formed = f.b_formed;
-            a_begins = f.a_begins;
-            b_begins = f.b_begins;
-            acknowledges = f.acknowledges;
-            image = inl at;
-            round = f.round;
-          };
+      start_follows = record { leads = f.leads; acknowledges = f.acknowledges; image = inl at; round = f.round };
     }
 
 start_ends : (first : List ℕ) (ticks : List (List Action)) (acknowledged : ℕ) (images : Images) (from : ℕ) (start : Start)
@@ -159,7 +107,7 @@ start_ends : (first : List ℕ) (ticks : List (List Action)) (acknowledged : ℕ
     → IsKept first ticks acknowledged images (started start.tick) []
 start_ends first ticks acknowledged images from start some s at none =
     let f = s.start_follows in
-    let whole : length ticks ≡ images.tick = f.whole ∙ sym at in
+    let whole : length ticks ≡ images.tick = f.leads.whole ∙ sym at in
     let kept : IsKept first ticks acknowledged images (started images.tick) [] = record {
       worlds = record { some_cells = some; last = s.last; accepted = s.accepted; images_follow = s.images_follow };
       logs_follow = record { taken = record { ended = omega (arith, whole); are = refl }; acknowledges = inr (omega (arith, f.acknowledges, at)); before = tt; switch = tt };
@@ -205,14 +153,16 @@ first_starting first images start round f some whole =
       accepted = ap Ok (sym is_first);
       images_follow = record { newest = subst (λ t. IsWorldAt first [] t round.taken) (sym begins.0) (first_at first round.taken is_first); before = tt; round = tt };
       start_follows = record {
-        whole = sym f.at_zero;
-        ahead = omega arith;
-        ends = omega (arith, ap length none, f.at_zero);
-        replays = λ words at. (words, ap (words_after words) none, subst (λ t. IsWorldAt first [] t words) (sym f.at_zero) at);
-        a_formed = ap is_bad_segment f.a_closed;
-        b_formed = ap is_bad_segment f.b_closed;
-        a_begins = subst (BeginsUpTo start.tick) (sym f.a_closed) tt;
-        b_begins = subst (BeginsUpTo start.tick) (sym f.b_closed) tt;
+        leads = record {
+          whole = sym f.at_zero;
+          ahead = omega arith;
+          ends = omega (arith, ap length none, f.at_zero);
+          replays = λ words at. (words, ap (words_after words) none, subst (λ t. IsWorldAt first [] t words) (sym f.at_zero) at);
+          a_formed = ap is_bad_segment f.a_closed;
+          b_formed = ap is_bad_segment f.b_closed;
+          a_begins = subst (BeginsUpTo start.tick) (sym f.a_closed) tt;
+          b_begins = subst (BeginsUpTo start.tick) (sym f.b_closed) tt;
+        };
         acknowledges = omega arith;
         image = inl (begins.0 ∙ sym f.at_zero);
         round = tt;

@@ -37,7 +37,7 @@ recovered_phase begins first ticks acknowledged r image_a image_b log_a log_b so
   record {
     from = r.from;
     starting = s.starting;
-    caught_up = λ none. (let le : r.tick ≤ r.from = no_less r.from r.tick e in omega (arith, le, s.starting.start_follows.ahead));
+    caught_up = λ none. (let le : r.tick ≤ r.from = no_less r.from r.tick e in omega (arith, le, s.starting.start_follows.leads.ahead));
   },
   refl,
 )

@@ -129,10 +129,6 @@ abbrev tick_of : Option Round → ℕ
 tick_of None = 0
 tick_of (Some round) = round.tick
 
--- the round keeps its tick, or ends
-RoundTicks : (tick : ℕ) → Option Round → Type 0
-RoundTicks tick round = (r : Round) → round ≡ Some r → r.tick ≡ tick
-
 same_ticks : (round : Round) (now : Option Round) → now ≡ Some round → (r : Round) → now ≡ Some r → r.tick ≡ round.tick
 same_ticks round now is r e = ap tick_of (sym e ∙ is)
 

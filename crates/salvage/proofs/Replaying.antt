@@ -7,7 +7,7 @@ use Rattle.std.specs.List.{flat_map}
 use Rattle.world_actions.specs.declared.refusal.Refusal.{Refusal}
 use Rattle.world_ticks.specs.After.{and_then, after_actions}
 use Rattle.action_log.specs.declared.format.TheConstants.{FIRST_GROUP}
-use Rattle.action_log.specs.Segment.{Tick, group_bytes, joined, ClosedSegment, OpenSegment, IsSegment, IsOpenSegment}
+use Rattle.action_log.specs.Segment.{Tick, group_bytes, joined, OpenSegment, IsSegment, IsOpenSegment}
 use Rattle.action_log.proofs.GroupLemmas.{joined_with}
 use Rattle.action_log.proofs.ReadingLemmas.{reads_once}
 use Rattle.salvage.specs.declared.log_part.LogPart.{LogPart}
@@ -48,7 +48,8 @@ front_of n m ticks le = sym (take-append-drop n (take m ticks)) ∙ ap (λ (l : 
 
 pub refused_by : (base : ℕ) (words bytes : List ℕ) (list : List Tick) (segment : IsOpenSegment bytes base list) (accepted at ticks : ℕ) → IsWithin segment.groups accepted at ticks
     → IsOk (words_after words (take accepted list)) → IsErr (words_after words (take (accepted + 1) list)) → IsRefused base words bytes (part_before base at ticks)
-refused_by base words bytes list segment accepted at ticks w ok err =
+refused_by base words bytes list segment accepted at ticks within ok err =
+    let w = within.place in
     let all : list ≡ joined w.kept ++ (w.group ++ joined w.later) = segment.of_groups ∙ ap joined w.split ∙ flat_map-append (λ (group : List Tick). group) w.kept (w.group ∷ w.later) in
     let front : take ticks list ≡ joined w.kept = ap (take ticks) all ∙ take_at (joined w.kept) (w.group ++ joined w.later) ticks (sym w.ticks_is) in
     let with_group : List Tick = joined (w.kept ++ w.group ∷ []) in
@@ -56,7 +57,7 @@ refused_by base words bytes list segment accepted at ticks w ok err =
     let all_with : list ≡ with_group ++ joined w.later = all ∙ sym (append_assoc (joined w.kept) w.group (joined w.later)) ∙ ap (λ (l : List Tick). l ++ joined w.later) (sym is_with) in
     let more : ℕ = length with_group in
     let taken : take more list ≡ with_group = ap (take more) all_with ∙ take_at with_group (joined w.later) more refl in
-    let reach : accepted + 1 ≤ more = omega (arith, w.next, w.ticks_is, ap length is_with, length-append (joined w.kept) w.group) in
+    let reach : accepted + 1 ≤ more = omega (arith, within.next, w.ticks_is, ap length is_with, length-append (joined w.kept) w.group) in
     record {
       list = list;
       segment = segment;
@@ -66,7 +67,7 @@ refused_by base words bytes list segment accepted at ticks w ok err =
       split = w.split;
       accepted =
           subst (λ l. IsOk (words_after words l)) front
-          (front_accepted words (take ticks list) (drop ticks (take accepted list)) (subst (λ l. IsOk (words_after words l)) (front_of ticks accepted list w.few) ok));
+          (front_accepted words (take ticks list) (drop ticks (take accepted list)) (subst (λ l. IsOk (words_after words l)) (front_of ticks accepted list within.few) ok));
       refused =
           subst (λ l. IsErr (words_after words l)) (sym (front_of (accepted + 1) more list reach) ∙ taken) (front_refused words (take (accepted + 1) list) (drop (accepted + 1) (take more list)) err);
       part_is = ap (λ n. part_before base n ticks) w.at_is ∙ ap (part_before base (FIRST_GROUP + length (flat_map group_bytes w.kept))) w.ticks_is;
@@ -82,10 +83,6 @@ pub replayed_by : (tick : ℕ) (words bytes : List ℕ) (formed part : LogPart) 
 replayed_by tick words bytes formed part base ticks e reads (inl ok) =
     inl (ok.0, λ list s. subst (λ l. IsOk (words_after words l)) (same_list (kept_log formed bytes) base tick ticks list reads s).1 ok.1)
 replayed_by tick words bytes formed part base ticks e reads (inr r) = inr (subst (λ t. IsRefused t words (kept_log formed bytes) part) e r)
-
-pub stays_closed : (tick : ℕ) (words bytes : List ℕ) (formed : LogPart) → IsSegment (kept_log formed bytes) ClosedSegment → IsReplayed tick words bytes formed formed
-stays_closed tick words bytes formed reads =
-    inl (refl, λ list s. (let same : ClosedSegment ≡ OpenSegment tick list = reads_once (kept_log formed bytes) ClosedSegment (OpenSegment tick list) reads s in absurd cc))
 
 pub stays_elsewhere : (tick : ℕ) (words bytes : List ℕ) (formed : LogPart) (base : ℕ) (ticks : List Tick)
     → IsSegment (kept_log formed bytes) (OpenSegment base ticks) → (base ≡ tick → ⊥) → IsReplayed tick words bytes formed formed

@@ -14,7 +14,7 @@ use Rattle.file_format.proofs.NumberLemmas.{length-number_bytes, number_of-numbe
 use Rattle.action_log.specs.declared.format.TheConstants.{BASE_BYTES, FIRST_GROUP, GROUP_TICKS}
 use Rattle.action_log.specs.Segment.{Tick, action_bytes, tick_bytes, group_bytes, joined, IsGroup, spelled_base, IsOpenSegment}
 use Rattle.action_log.proofs.GroupLemmas.{joined_with}
-use Rattle.salvage.specs.Groups.{IsWithin}
+use Rattle.salvage.specs.Groups.{GroupAt, IsWithin}
 
 -- ---- lengths
 
@@ -75,17 +75,12 @@ stands_first groups = record { kept = []; left = groups; split = refl; at_is = r
 
 -- the group at a place
 pub record NextGroup (bytes : List ℕ) (list : List Tick) (groups : List (List Tick)) (at done : ℕ) : Type 0 where
-  pub kept : List (List Tick)
-  pub group : List Tick
-  pub later : List (List Tick)
-  pub split : groups ≡ kept ++ group ∷ later
-  pub at_is : at ≡ FIRST_GROUP + length (flat_map group_bytes kept)
-  pub done_is : done ≡ length (joined kept)
-  pub count : number_of 2 (drop (at + 1) bytes) ≡ length group
-  pub ticks_are : take (length group) (drop done list) ≡ group
-  pub room : at + length (group_bytes group) ≤ length bytes
-  pub some : 1 ≤ length group
-  pub within : done + length group ≤ length list
+  pub place : GroupAt groups at done
+  pub count : number_of 2 (drop (at + 1) bytes) ≡ length place.group
+  pub ticks_are : take (length place.group) (drop done list) ≡ place.group
+  pub room : at + length (group_bytes place.group) ≤ length bytes
+  pub some : 1 ≤ length place.group
+  pub within : done + length place.group ≤ length list
 
 all_at : {X : Type 0} (P : X → Type 0) (xs : List X) (x : X) (ys : List X) → AllByRecursion P (xs ++ x ∷ ys) → P x
 all_at P [] x ys all = all.0
@@ -98,38 +93,35 @@ joined_at : (kept : List (List Tick)) (group : List Tick) (later : List (List Ti
 joined_at kept group later = flat_map-append (λ (group : List Tick). group) kept (group ∷ later)
 
 module _ (bytes : List ℕ) (base : ℕ) (list : List Tick) (segment : IsOpenSegment bytes base list) where
-  group_follows : (at done : ℕ) (kept : List (List Tick)) (group : List Tick) (later : List (List Tick)) → segment.groups ≡ kept ++ group ∷ later
-      → at ≡ FIRST_GROUP + length (flat_map group_bytes kept) → done ≡ length (joined kept) → NextGroup bytes list segment.groups at done
-  group_follows at done kept group later split at_is done_is =
+  group_follows : (at done : ℕ) → GroupAt segment.groups at done → NextGroup bytes list segment.groups at done
+  group_follows at done place =
+      let kept = place.kept in
+      let group = place.group in
+      let later = place.later in
       let spelled = spelled_base segment.format base in
       let flat = flat_map group_bytes kept in
       let front : List ℕ = OPEN_GATE ∷ (spelled ++ flat) in
       let more : List ℕ = flat_map group_bytes later ++ segment.rest in
       let is : bytes ≡ front ++ (group_bytes group ++ more) =
-      segment.spelled ∙ ap (λ g. OPEN_GATE ∷ (spelled ++ (flat_map group_bytes g ++ segment.rest))) split
+      segment.spelled ∙ ap (λ g. OPEN_GATE ∷ (spelled ++ (flat_map group_bytes g ++ segment.rest))) place.split
       ∙ ap (λ (l : List ℕ). OPEN_GATE ∷ (spelled ++ (l ++ segment.rest))) (flat_map-append group_bytes kept (group ∷ later))
       ∙ ap (λ (l : List ℕ). OPEN_GATE ∷ l) (regroup spelled flat (group_bytes group) (flat_map group_bytes later) segment.rest) in
-      let length_front : length front ≡ at = omega (arith, at_is, length-append spelled flat, length-number_bytes BASE_BYTES (marked_of segment.format base)) in
-      let of : IsGroup segment.format group = all_at (IsGroup segment.format) kept group later (subst (AllByRecursion (IsGroup segment.format)) split segment.are_groups) in
+      let length_front : length front ≡ at = omega (arith, place.at_is, length-append spelled flat, length-number_bytes BASE_BYTES (marked_of segment.format base)) in
+      let of : IsGroup segment.format group = all_at (IsGroup segment.format) kept group later (subst (AllByRecursion (IsGroup segment.format)) place.split segment.are_groups) in
       let body : List ℕ = flat_map tick_bytes group in
       let behind : drop (at + 1) bytes ≡ number_bytes 2 (length group) ++ (body ++ more) =
       ap (drop (at + 1)) is ∙ ap (λ n. drop (n + 1) (front ++ (group_bytes group ++ more))) (sym length_front) ∙ drop-append-add front (group_bytes group ++ more) 1
       ∙ append_assoc (number_bytes 2 (length group)) body more in
-      let all : list ≡ joined kept ++ (group ++ joined later) = segment.of_groups ∙ ap joined split ∙ joined_at kept group later in
+      let all : list ≡ joined kept ++ (group ++ joined later) = segment.of_groups ∙ ap joined place.split ∙ joined_at kept group later in
       record {
-        kept = kept;
-        group = group;
-        later = later;
-        split = split;
-        at_is = at_is;
-        done_is = done_is;
+        place = place;
         count = ap (number_of 2) behind ∙ number_of-number_bytes 2 (length group) (body ++ more) (let few : length group ≤ GROUP_TICKS = of.1 in omega arith);
         ticks_are =
             ap (λ l. take (length group) (drop done l)) all ∙ ap (take (length group))
-            (drop_at (joined kept) (group ++ joined later) done (sym done_is)) ∙ take_at group (joined later) (length group) refl;
+            (drop_at (joined kept) (group ++ joined later) done (sym place.ticks_is)) ∙ take_at group (joined later) (length group) refl;
         room = omega (arith, ap length is, length-append front (group_bytes group ++ more), length-append (group_bytes group) more, length_front);
         some = of.0;
-        within = omega (arith, ap length all, length-append (joined kept) (group ++ joined later), length-append group (joined later), done_is);
+        within = omega (arith, ap length all, length-append (joined kept) (group ++ joined later), length-append group (joined later), place.ticks_is);
       }
 
   -- a tick that is left is in a group that is left
@@ -138,13 +130,14 @@ module _ (bytes : List ℕ) (base : ℕ) (list : List Tick) (segment : IsOpenSeg
     where
       go : (left : List (List Tick)) → segment.groups ≡ s.kept ++ left → NextGroup bytes list segment.groups at done
       go [] split = absurd (omega (arith, more, s.done_is, ap length segment.of_groups, ap (λ g. length (joined g)) (split ∙ append-nil s.kept)))
-      go (group ∷ later) split = group_follows at done s.kept group later split s.at_is s.done_is
+      go (group ∷ later) split = group_follows at done (record { kept = s.kept; group = group; later = later; split = split; at_is = s.at_is; ticks_is = s.done_is })
 
 -- the next group is passed
 pub stands_next : (bytes : List ℕ) (list : List Tick) (groups : List (List Tick)) (at done length_group count : ℕ)
-    (n : NextGroup bytes list groups at done) → length_group ≡ length (group_bytes n.group) → count ≡ length n.group
+    (next : NextGroup bytes list groups at done) → length_group ≡ length (group_bytes next.place.group) → count ≡ length next.place.group
     → StandsAt groups (at + length_group) (done + count)
-stands_next bytes list groups at done length_group count n long many =
+stands_next bytes list groups at done length_group count next long many =
+    let n = next.place in
     let last = n.group ∷ [] in
     record {
       kept = n.kept ++ last;
@@ -160,25 +153,25 @@ stands_next bytes list groups at done length_group count n long many =
                 (flat_map group_bytes n.kept) (flat_map group_bytes last),
             ap length (append-nil (group_bytes n.group)),
           );
-      done_is = omega (arith, n.done_is, many, ap length (joined_with n.kept n.group), length-append (joined n.kept) n.group);
+      done_is = omega (arith, n.ticks_is, many, ap length (joined_with n.kept n.group), length-append (joined n.kept) n.group);
     }
 
 -- the search ends before the next group
 pub stops_before : (bytes : List ℕ) (list : List Tick) (groups : List (List Tick)) (at done most count : ℕ)
-    (n : NextGroup bytes list groups at done) → count ≡ length n.group → done ≤ most → most < done + count
+    (n : NextGroup bytes list groups at done) → count ≡ length n.place.group → done ≤ most → most < done + count
     → IsWithin groups most at done
 stops_before bytes list groups at done most count n many few more =
-    record { kept = n.kept; group = n.group; later = n.later; split = n.split; at_is = n.at_is; ticks_is = n.done_is; few = few; next = omega (arith, more, many) }
+    record { place = n.place; few = few; next = omega (arith, more, many) }
 
 -- there is room for the header of the next group
 pub room_for : (bytes : List ℕ) (list : List Tick) (groups : List (List Tick)) (at done : ℕ) → NextGroup bytes list groups at done → at + 3 ≤ length bytes
-room_for bytes list groups at done n = omega (arith, n.room, length_group_is n.group)
+room_for bytes list groups at done n = omega (arith, n.room, length_group_is n.place.group)
 
 -- the next group by its count
 pub record Counted (bytes : List ℕ) (list : List Tick) (groups : List (List Tick)) (at done count : ℕ) : Type 0 where
   pub next : NextGroup bytes list groups at done
-  pub count_is : count ≡ length next.group
-  pub group_is : take count (drop done list) ≡ next.group
+  pub count_is : count ≡ length next.place.group
+  pub group_is : take count (drop done list) ≡ next.place.group
   pub some : 1 ≤ count
   pub within : done + count ≤ length list
   pub room : at + length (group_bytes (take count (drop done list))) ≤ length bytes
@@ -187,8 +180,8 @@ pub counted : (bytes : List ℕ) (base : ℕ) (list : List Tick) (segment : IsOp
     → count ≡ number_of 2 (drop (at + 1) bytes) → Counted bytes list segment.groups at done count
 counted bytes base list segment at done most count stands few more is =
     let n = next_group bytes base list segment at done stands (omega (arith, few, more)) in
-    let same : count ≡ length n.group = is ∙ n.count in
-    let group_is : take count (drop done list) ≡ n.group = ap (λ k. take k (drop done list)) same ∙ n.ticks_are in
+    let same : count ≡ length n.place.group = is ∙ n.count in
+    let group_is : take count (drop done list) ≡ n.place.group = ap (λ k. take k (drop done list)) same ∙ n.ticks_are in
     record {
       next = n;
       count_is = same;

@@ -54,11 +54,9 @@ good_taken bytes images.Dropped is good = (let e : true ≡ false = sym (ap is_b
 -- the readings of what is taken of the log, and the answer of recovery for them
 pub record TakenAnswers (image_a image_b log_a log_b : List ℕ) (part_a part_b : LogPart) : Type 0 where
   pub newest : Recovery
-  pub a : Segment
-  pub b : Segment
-  pub reads_a : IsSegment (kept_log part_a log_a) a
-  pub reads_b : IsSegment (kept_log part_b log_b) b
-  pub answers : Answers (image_of image_a) (image_of image_b) newest a b
+  pub kept_a : IsKept log_a part_a
+  pub kept_b : IsKept log_b part_b
+  pub answers : Answers (image_of image_a) (image_of image_b) newest (segment_of part_a kept_a.list) (segment_of part_b kept_b.list)
 
 pub taken_answers : (image_a image_b log_a log_b : List ℕ) (formed_a formed_b part_a part_b : LogPart) → IsKept log_a formed_a → IsKept log_b formed_b
     → AreReplayedInOrder image_a image_b log_a log_b formed_a formed_b part_a part_b → TakenAnswers image_a image_b log_a log_b part_a part_b
@@ -70,25 +68,13 @@ taken_answers image_a image_b log_a log_b formed_a formed_b part_a part_b ka kb 
     go (inl (begins, r)) =
         let first = first_taken o.newest log_a log_b formed_a formed_b part_a part_b ka kb r in
         let second = second_taken o.newest log_a log_b formed_a formed_b part_a part_b ka kb r in
-        record {
-          newest = o.newest;
-          a = segment_of part_a first.kept.list;
-          b = segment_of part_b second.kept.list;
-          reads_a = first.kept.reads;
-          reads_b = second.kept.reads;
-          answers = answers_first o.newest log_a log_b formed_a formed_b part_a part_b ka kb r image_a image_b o.newest_is begins;
-        }
+        let answers = answers_first o.newest log_a log_b formed_a formed_b part_a part_b ka kb r image_a image_b o.newest_is begins in
+        record { newest = o.newest; kept_a = first.kept; kept_b = second.kept; answers = answers }
     go (inr (begins, r)) =
         let first = first_taken o.newest log_b log_a formed_b formed_a part_b part_a kb ka r in
         let second = second_taken o.newest log_b log_a formed_b formed_a part_b part_a kb ka r in
-        record {
-          newest = o.newest;
-          a = segment_of part_a second.kept.list;
-          b = segment_of part_b first.kept.list;
-          reads_a = second.kept.reads;
-          reads_b = first.kept.reads;
-          answers = answers_second o.newest log_b log_a formed_b formed_a part_b part_a kb ka r image_a image_b o.newest_is begins;
-        }
+        let answers = answers_second o.newest log_b log_a formed_b formed_a part_b part_a kb ka r image_a image_b o.newest_is begins in
+        record { newest = o.newest; kept_a = second.kept; kept_b = first.kept; answers = answers }
 
 -- ---- files that recovery accepts
 

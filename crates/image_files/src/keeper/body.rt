@@ -6,13 +6,12 @@ ghost use Rattle.std.specs.List.{flat_map};
 ghost use Rattle.file_format.specs.Number.{number_bytes};
 ghost use Rattle.file_format.specs.declared.format.TheConstants.{MARK_PLACE};
 ghost use Rattle.file_format.specs.declared.format.Format.{Format};
-ghost use Rattle.disk_model.specs.Disk.{counted, Read, Write, Sync};
+ghost use Rattle.disk_model.specs.Disk.{counted, Read, Write};
 ghost use Rattle.file_format.specs.Gate.{HasShutGate};
 ghost use Rattle.capture_core.specs.declared.taker.Taken.{Taken};
 ghost use Rattle.capture_core.specs.Taken.{IsTakenWord};
 ghost use Rattle.image_files.specs.declared.phase.Phase.TheVariants.{Header, Taking, Reading};
-ghost use Rattle.image_files.specs.declared.phase.Phase.TheVariants.{Writing, BodySync, Opening};
-ghost use Rattle.image_files.specs.declared.phase.Phase.TheVariants.{Down};
+ghost use Rattle.image_files.specs.declared.phase.Phase.TheVariants.{Writing, Down};
 ghost use Rattle.image_files.specs.Progress.{left_of};
 ghost use Rattle.image_files.specs.Keeper.{Fits};
 ghost use Rattle.image_files.specs.Steps.{IsOnlyRead};
@@ -152,26 +151,6 @@ impl ImageKeeper {
         } else {
             Phase::Taking
         };
-    }
-
-    // Makes header and words durable.
-    #[tactic(auto, unfolding(crate::specs::Image::image_of))]
-    pub(super) fn sync_body<D: Disk>(&mut self, target: &mut D) -> Result<(), Refusal>
-        requires phase { self.old.phase ≡ BodySync }
-        ensures ok { OnOk result (self.new ≡ record self.old { phase = Opening }) }
-        ensures failed { OnErr result (self.new ≡ record self.old { phase = Down }) }
-        ensures goes_on { GoesOn D.honest D.content D.may_leave self.old
-            self.new target.old target.new }
-        ensures lowers { OnOk result (left_of self.new < left_of self.old) }
-        ensures faults { D.faults target.new ≡ counted (D.faults target.old) result }
-        ensures called { D.called target.old Sync (is_ok result) target.new }
-    {
-        if let Err(refusal) = target.sync() {
-            self.go_down();
-            return Err(refusal);
-        }
-        self.phase = Phase::Opening;
-        Ok(())
     }
 }
 

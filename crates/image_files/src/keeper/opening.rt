@@ -1,37 +1,16 @@
-ghost use Rattle.std.specs.Prelude.{◌≡◌, ◌<◌, OnOk, OnErr, IfOk, is_ok, [], ◌∷◌};
-ghost use Rattle.file_format.specs.declared.gate.TheConstants.{OPEN_GATE};
-ghost use Rattle.disk_model.specs.Disk.{counted, Write, Sync};
-ghost use Rattle.image_files.specs.declared.phase.Phase.TheVariants.{Opening, OpeningSync, Down};
+ghost use Rattle.std.specs.Prelude.{◌≡◌, ◌<◌, OnOk, OnErr, IfOk, is_ok};
+ghost use Rattle.disk_model.specs.Disk.{counted, Sync};
+ghost use Rattle.image_files.specs.declared.phase.Phase.TheVariants.{OpeningSync, Down};
 ghost use Rattle.image_files.specs.Progress.{left_of, opened_keeper};
 ghost use Rattle.image_files.specs.Calls.{GoesOn, Opens};
 
 use super::ImageKeeper;
 use crate::phase::Phase;
 use disk_model::Disk;
-use file_format::OPEN_GATE;
 use world_actions::Refusal;
 
 // The opening of the target, once its body is durable.
 impl ImageKeeper {
-    // Opens the gate.
-    pub(super) fn open_gate<D: Disk>(&mut self, target: &mut D) -> Result<(), Refusal>
-        requires phase { self.old.phase ≡ Opening }
-        ensures ok { OnOk result (self.new ≡ record self.old { phase = OpeningSync }) }
-        ensures failed { OnErr result (self.new ≡ record self.old { phase = Down }) }
-        ensures goes_on { GoesOn D.honest D.content D.may_leave self.old
-            self.new target.old target.new }
-        ensures lowers { OnOk result (left_of self.new < left_of self.old) }
-        ensures faults { D.faults target.new ≡ counted (D.faults target.old) result }
-        ensures called { D.called target.old (Write 0 (OPEN_GATE ∷ [])) (is_ok result) target.new }
-    {
-        if let Err(refusal) = target.write_at(0, &[OPEN_GATE]) {
-            self.go_down();
-            return Err(refusal);
-        }
-        self.phase = Phase::OpeningSync;
-        Ok(())
-    }
-
     // Makes the open gate durable. The target then holds the newest image, and the files
     // exchange their parts.
     pub(super) fn finish<D: Disk>(&mut self, target: &mut D) -> Result<u64, Refusal>

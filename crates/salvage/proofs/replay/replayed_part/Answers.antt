@@ -27,11 +27,4 @@ returns-else-base-world-clause-part c =
 
 pub returns-else-base-world-clause-kept : goal.returns-else-base-world-clause-kept
 returns-else-base-world-clause-kept c =
-    let o = c.in-Ok-Open in
-    let part = c.accepted_part.result in
-    let words = c.args.world.words.items in
-    let reads : IsSegment (kept_log c.args.formed c.args.bytes.now) (OpenSegment o.base o.ticks) =
-    subst (λ l. IsSegment l (OpenSegment o.base o.ticks)) c.kept-kept.ensures (subst (λ s. IsSegment c.kept-kept.result.now (segment_in s)) o.field-0-is o.ensures.reads) in
-    kept_replayed c.args.world.tick words c.args.bytes.now c.args.formed part c.requires.kept
-    (replayed_by c.args.world.tick words c.args.bytes.now c.args.formed part o.base o.ticks c.if-base-world.false reads
-    (subst (λ l. ((part ≡ c.args.formed) × IsOk (words_after words o.ticks)) ⊎ IsRefused o.base words l part) c.kept-kept.ensures c.accepted_part.ensures))
+    kept_replayed c.args.world.tick c.args.world.words.items c.args.bytes.now c.args.formed c.accepted_part.result c.requires.kept (returns-else-base-world-clause-part c)

@@ -28,7 +28,7 @@ returns-in_err-found-clause-refused c =
     c.in_ok-formed_part.ensures.kept c.in_ok-formed_part-2.ensures.kept c.in_ok-log_part_a.ensures.replayed in
     let none : refusal ≡ NoMemory = elim c.in_err-found.ensures.refused [
       | inl none ↦ none
-      | inr e ↦ absurd (not_refused ia ib (kept_log pa la) (kept_log pb lb) x.newest x.a x.b x.reads_a x.reads_b x.answers refusal
+      | inr e ↦ absurd (not_refused ia ib (kept_log pa la) (kept_log pb lb) x.newest _ _ x.kept_a.reads x.kept_b.reads x.answers refusal
           (recovers_on (Err refusal) refl refl c.kept-kept_a.ensures c.kept-kept_b.ensures e))
     ] in
     if_err c.from_residual-in_err-found.result refusal (λ e. (e ≡ NoMemory) ⊎ ((e ≡ NoImage) × ¬ IsOpenImage (image_of c.args.image_a.now) × ¬ IsOpenImage (image_of c.args.image_b.now)))

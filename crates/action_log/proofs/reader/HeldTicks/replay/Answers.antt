@@ -1,6 +1,3 @@
-use Rattle.std.proofs.Common.{◌≡◌, subst, Ok}
-use Rattle.world_ticks.specs.After.{after_actions}
-use Rattle.action_log.specs.TickList.{actions_of}
 use Rattle.action_log.proofs.ReplayLemmas.{held_done, held_refused}
 use Rattle.action_log.proofs.reader.HeldTicks.replay.Goals as goal
 

@@ -1,5 +1,4 @@
 use Rattle.std.proofs.Common.{◌++◌, ◌∷◌, [], refl, ◌∙◌, arith}
-use Rattle.action_log.specs.Reading.{tick_at}
 use Rattle.action_log.proofs.ValueReadingLemmas.{read_start, read_next, read_none, read_all}
 use Rattle.action_log.proofs.TickListLemmas.{length-actions_of-with}
 use Rattle.action_log.proofs.reader.ticks.count_group.Goals as goal
@@ -7,7 +6,7 @@ use Rattle.action_log.proofs.reader.ticks.count_group.Goals as goal
 pub loop-init : goal.loop-init
 loop-init c = record {
   ticks = [];
-  read = read_start (tick_at c.args.format) c.in_ok-count.count c.in_ok-count.rest.now;
+  read = read_start;
   actions_are = refl;
   few = omega arith;
 }
@@ -18,17 +17,14 @@ returns-in_err-count-clause-none c = rw c.from_residual.ensures (c.in_err-count.
 pub returns-in_err-more-clause-none : goal.returns-in_err-more-clause-none
 returns-in_err-more-clause-none c =
     let so_far = c.loop.invariant in
-    rw c.from_residual-in_err-more.ensures (c.in_ok-count.ensures.some c.args.format
-    ∙ read_none (tick_at c.args.format) c.in_ok-count.count c.loop.counter so_far.ticks c.in_ok-count.rest.now c.loop.rest.now (omega (arith, c.loop-test.true)) c.in_err-more.ensures.none so_far.read)
+    rw c.from_residual-in_err-more.ensures (c.in_ok-count.ensures.some c.args.format ∙ read_none so_far.read (omega (arith, c.loop-test.true)) c.in_err-more.ensures.none)
 
 pub loop-preserved : goal.loop-preserved
 loop-preserved c =
     let tick = c.in_ok-more.ensures.some in
     let so_far = c.loop.invariant in record {
       ticks = so_far.ticks ++ tick.0 ∷ [];
-      read =
-          read_next (tick_at c.args.format) c.in_ok-count.count c.loop.counter so_far.ticks c.in_ok-count.rest.now c.loop.rest.now
-          c.in_ok-more.next.now tick.0 (omega (arith, c.loop-test.true)) tick.1 so_far.read;
+      read = read_next so_far.read (omega (arith, c.loop-test.true)) tick.1;
       actions_are = omega (arith, length-actions_of-with so_far.ticks tick.0, so_far.actions_are, tick.2);
       few = omega (arith, so_far.few, c.in_ok-more.ensures.most);
     }
@@ -37,8 +33,7 @@ pub returns-clause-some : goal.returns-clause-some
 returns-clause-some c =
     let so_far = c.loop.invariant in (
       so_far.ticks,
-      c.in_ok-count.ensures.some c.args.format ∙ read_all (tick_at c.args.format) c.in_ok-count.count c.loop.counter so_far.ticks
-          c.in_ok-count.rest.now c.loop.rest.now (omega (arith, c.loop-test.false)) so_far.read,
+      c.in_ok-count.ensures.some c.args.format ∙ read_all so_far.read (omega (arith, c.loop-test.false)),
       omega (arith, so_far.read.so_many, so_far.read.within, c.loop-test.false),
       so_far.actions_are,
     )

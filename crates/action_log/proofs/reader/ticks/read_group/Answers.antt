@@ -1,6 +1,5 @@
 use Rattle.std.proofs.Common.{◌++◌, ◌∷◌, [], inl, inr, refl, ◌∙◌, arith}
 use Rattle.std.proofs.lemmas.Result.{err_from_is_err_and}
-use Rattle.action_log.specs.Reading.{tick_at}
 use Rattle.action_log.proofs.ValueReadingLemmas.{read_start, read_next, read_none, read_all}
 use Rattle.action_log.proofs.TickListLemmas.{added_none, added_then}
 use Rattle.action_log.proofs.reader.ticks.read_group.Goals as goal
@@ -11,7 +10,7 @@ returns-in_default-clause-refused c = inr (refl, c.in_default.ensures.none c.arg
 pub loop-init : goal.loop-init
 loop-init c = record {
   ticks = [];
-  read = read_start (tick_at c.args.format) c.in-Some.count c.in-Some.rest.now;
+  read = read_start;
   added = added_none c.args.actions.now.items c.args.ends.now.items;
 }
 
@@ -21,12 +20,7 @@ returns-in_err-rest-clause-refused c =
     let so_far = c.loop.invariant in
     rw (p.1, p.2) (elim c.in_err-rest.ensures.refused [
       | inl memory ↦ inl memory
-      | inr bad
-          ↦ inr (
-            bad.0,
-            c.in-Some.ensures.some c.args.format ∙ read_none (tick_at c.args.format) c.in-Some.count c.loop.counter
-                so_far.ticks c.in-Some.rest.now c.loop.rest.now (omega (arith, c.loop-test.true)) bad.1 so_far.read,
-          )
+      | inr bad ↦ inr (bad.0, c.in-Some.ensures.some c.args.format ∙ read_none so_far.read (omega (arith, c.loop-test.true)) bad.1)
     ])
 
 pub loop-preserved : goal.loop-preserved
@@ -34,9 +28,7 @@ loop-preserved c =
     let so_far = c.loop.invariant in
     let tick = c.in_ok-rest.ensures.read in record {
       ticks = so_far.ticks ++ tick.0 ∷ [];
-      read =
-          read_next (tick_at c.args.format) c.in-Some.count c.loop.counter so_far.ticks c.in-Some.rest.now c.loop.rest.now
-          c.in_ok-rest.rest.now tick.0 (omega (arith, c.loop-test.true)) tick.1 so_far.read;
+      read = read_next so_far.read (omega (arith, c.loop-test.true)) tick.1;
       added = added_then so_far.ticks (tick.0 ∷ []) _ _ _ _ _ _ so_far.added tick.2;
     }
 
@@ -44,7 +36,6 @@ pub returns-clause-read : goal.returns-clause-read
 returns-clause-read c =
     let so_far = c.loop.invariant in (
       so_far.ticks,
-      c.in-Some.ensures.some c.args.format ∙ read_all (tick_at c.args.format) c.in-Some.count c.loop.counter so_far.ticks
-          c.in-Some.rest.now c.loop.rest.now (omega (arith, c.loop-test.false)) so_far.read,
+      c.in-Some.ensures.some c.args.format ∙ read_all so_far.read (omega (arith, c.loop-test.false)),
       so_far.added,
     )

@@ -5,7 +5,7 @@ use Rattle.action_log.specs.Segment.{IsOpenSegment}
 use Rattle.action_log.specs.declared.format.TheConstants.{SEGMENT_BYTES_MAX}
 use Rattle.file_readers.specs.declared.segment.TheConstants.{PIECE_BYTES}
 use Rattle.file_readers.proofs.AskingLemmas.{asked_on}
-use Rattle.file_readers.proofs.segment.read_segment_into.Goals as goal
+use Rattle.file_readers.proofs.segment.read_segment_file.Goals as goal
 
 -- a place that is no further than twice as far as these bytes go, unless it is in the first piece
 piece_end : (end count : ℕ) → (end ≤ PIECE_BYTES) ⊎ (end ≤ 2 * count) → end ≤ max PIECE_BYTES (2 * count)

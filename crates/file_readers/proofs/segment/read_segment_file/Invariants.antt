@@ -4,7 +4,7 @@ use Rattle.action_log.specs.Extent.{IsExtent}
 use Rattle.action_log.specs.declared.format.TheConstants.{SEGMENT_BYTES_MAX}
 use Rattle.file_readers.specs.Asking.{OnlyAsked}
 use Rattle.file_readers.specs.declared.segment.TheConstants.{PIECE_BYTES}
-use Rattle.file_readers.proofs.segment.read_segment_into.Given as goal
+use Rattle.file_readers.proofs.segment.read_segment_file.Given as goal
 
 -- these are the first bytes of the file, and more have to be read, up to `end`
 abbrev pub invariant-loop-bytes : goal.invariant-loop-bytes
