@@ -14,8 +14,11 @@ const PIECE_BYTES: u64 = 65_536;
 /// log has room for eight times as many.
 const PACED_TICKS: u64 = 8_192;
 
-/// The pause after a piece, in nanoseconds.
-const PAUSE: i64 = 2_000_000;
+/// The pause after a piece: 2 ms.
+const PAUSE: timespec = timespec {
+    tv_sec: 0,
+    tv_nsec: 2_000_000,
+};
 
 /// How many ticks have ended, for the files that are paced by them. Its clones share the count.
 #[derive(Drop)]
@@ -103,15 +106,8 @@ fn is_paced(begun: u64, ticks: u64) -> bool
     ticks > 0 && ticks.saturating_sub(begun) < PACED_TICKS
 }
 
-/// Lets other threads use the device for 2 ms. A signal may end the pause before.
+/// Leaves the device to other threads for a while. A signal may end the pause before.
 pub fn pause() {
-    let asked = timespec {
-        tv_sec: 0,
-        tv_nsec: PAUSE,
-    };
-    let mut left = timespec {
-        tv_sec: 0,
-        tv_nsec: 0,
-    };
-    libc::nanosleep(&asked, &mut left);
+    let mut left = PAUSE;
+    libc::nanosleep(&PAUSE, &mut left);
 }
