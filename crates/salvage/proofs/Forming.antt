@@ -8,14 +8,14 @@ use Rattle.file_format.specs.declared.format.Format.{Format}
 use Rattle.file_format.specs.Format.{marked_of, marked_in}
 use Rattle.file_format.proofs.NumberLemmas.{length-number_bytes}
 use Rattle.action_log.specs.declared.format.TheConstants.{BASE_BYTES, FIRST_GROUP, HEADER_BYTES}
-use Rattle.action_log.specs.Segment.{Tick, ClosedSegment, OpenSegment, IsSegment, IsOpenSegment, IsGroup, group_bytes, joined, spelled_base}
+use Rattle.action_log.specs.Segment.{Tick, ClosedSegment, MalformedSegment, OpenSegment, IsSegment, IsOpenSegment, IsGroup, group_bytes, joined, spelled_base}
 use Rattle.action_log.specs.Extent.{IsExtent}
 use Rattle.action_log.proofs.ReadingLemmas.{mark_again}
 use Rattle.action_log.proofs.ValueReadingLemmas.{found_is}
 use Rattle.action_log.proofs.ExtentLemmas.{cut_reads}
 use Rattle.salvage.specs.declared.log_part.LogPart.{LogPart}
 use Rattle.salvage.specs.declared.log_part.LogPart.TheVariants as logs
-use Rattle.salvage.specs.Parts.{kept_log, segment_of, FitsIn, IsKept}
+use Rattle.salvage.specs.Parts.{kept_log, segment_of, FitsIn, IsKept, IsFormed}
 use Rattle.salvage.specs.Replay.{part_before, IsRefused}
 
 pub closed_nothing : IsSegment [] ClosedSegment
@@ -134,3 +134,11 @@ reads_before base words bytes formed part fits r =
       };
       list_is = inr refl;
     }
+
+-- a malformed segment is cut after its leading groups, or dropped if they have no tick
+pub formed_before : (bytes : List ℕ) (at ticks : ℕ) (ended : Bool) (extent : IsExtent bytes at ticks ended) (format : Format) (base : ℕ) → marked_in bytes ≡ Some (format, base)
+    → IsSegment bytes MalformedSegment → IsFormed bytes (part_before base at ticks) × IsKept bytes (part_before base at ticks)
+formed_before bytes at zero ended extent format base marked malformed = ((malformed, inr (at, ended, extent)), kept_nothing bytes)
+formed_before bytes at (suc ticks) ended extent format base marked malformed =
+    let is = base_of_extent bytes at (suc ticks) ended extent format base marked in
+    ((malformed, omega arith, ended, extent, is), kept_extent bytes at (suc ticks) ended extent base is (omega arith))

@@ -1,7 +1,9 @@
 ghost use Rattle.std.specs.Prelude.{◌≡◌, IfOk, IfErr};
 ghost use Rattle.action_log.specs.Segment.{MalformedSegment, IsSegment, HasTicks};
 ghost use Rattle.salvage.specs.Parts.{IsFormed, IsKept};
+ghost use Rattle.salvage.specs.Replay.{part_before};
 
+use crate::groups::Leading;
 use action_log::{LogState, extent_of, read_log, segment_extents};
 use file_format::marked_at;
 use std::alloc::Global;
@@ -79,12 +81,23 @@ fn leading_part(bytes: &[u8]) -> LogPart
     let Some((_, base)) = marked_at(bytes) else {
         return LogPart::Dropped;
     };
-    if extent.ticks == 0 {
+    let leading = Leading {
+        at: extent.groups_end,
+        ticks: extent.ticks,
+    };
+    part_before(base, leading)
+}
+
+/// Returns the part of a segment with these leading groups.
+pub fn part_before(base: u64, leading: Leading) -> LogPart
+    ensures { result ≡ part_before base leading.at leading.ticks }
+{
+    if leading.ticks == 0 {
         return LogPart::Dropped;
     }
     LogPart::Cut {
-        at: extent.groups_end,
+        at: leading.at,
         base,
-        ticks: extent.ticks,
+        ticks: leading.ticks,
     }
 }

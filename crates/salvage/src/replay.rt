@@ -5,10 +5,10 @@ ghost use Rattle.world_actions.specs.World.{IsWorld};
 ghost use Rattle.action_log.specs.Segment.{Tick, OpenSegment, IsSegment};
 ghost use Rattle.recovery.specs.Recovery.{words_after};
 ghost use Rattle.salvage.specs.Parts.{IsKept};
-ghost use Rattle.salvage.specs.Replay.{IsReplayed, IsRefused, part_before};
+ghost use Rattle.salvage.specs.Replay.{IsReplayed, IsRefused};
 
-use crate::groups::{Leading, groups_within};
-use crate::log_part::LogPart;
+use crate::groups::groups_within;
+use crate::log_part::{LogPart, part_before};
 use action_log::{LogState, TickList, read_log, segments_read_once};
 use recovery::Recovered;
 use std::alloc::Global;
@@ -84,18 +84,4 @@ fn accepted_ticks(words: &mut Words, ticks: &TickList) -> usize
         }
     }
     ticks.len()
-}
-
-// The part of a segment with these leading groups.
-fn part_before(base: u64, leading: Leading) -> LogPart
-    ensures { result ≡ part_before base leading.at leading.ticks }
-{
-    if leading.ticks == 0 {
-        return LogPart::Dropped;
-    }
-    LogPart::Cut {
-        at: leading.at,
-        base,
-        ticks: leading.ticks,
-    }
 }
