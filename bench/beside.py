@@ -7,8 +7,9 @@ Redis gets as many sets in a pipeline. A system that isn't installed is skipped.
 Each row has the medians of its runs: sets a second, batches a second, their ratio to those of Redis, the median of a batch's
 wait, the system's processor time a batch, and its ratio to that of Redis. Each run is divided by the run of Redis just before
 it over the same transport, and a ratio is the median of these quotients. SQLite runs in the process of its clients, so its
-processor time includes theirs, and its ratios are to Redis over the first transport. So are those of the row `device calls`. It
-has only the calls by which worldd makes a group of ticks durable, without a client: no batch can wait less.
+processor time includes theirs, and its ratios are to Redis over the first transport. So are those of the last two rows. `device
+calls` has only the calls by which worldd makes a group of ticks durable, without a client: no batch can wait less. `session
+threads` has them behind a thread for each client, and no world.
 """
 import argparse
 import csv

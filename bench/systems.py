@@ -183,11 +183,11 @@ def run_sqlite(driver: str, folder: pathlib.Path, load: Load) -> Sample:
     return Sample(*map(float, printed_by([driver, "cells.db", *numbers], folder).split()))
 
 
-# The device calls of a group, which no server that makes them can outrun
+# The device calls of a group, which no server that makes them can outrun, and those behind a thread for each client
 
 
-def run_device_calls(driver: str, folder: pathlib.Path, load: Load) -> Sample:
-    """A run of the four calls of a group, in which each client has a tick."""
+def run_calls(driver: str, folder: pathlib.Path, load: Load) -> Sample:
+    """A run of a driver that makes the four calls of a group, in which each client has a tick."""
     numbers = map(str, (load.clients, load.lines, load.seconds))
     return Sample(*map(float, printed_by([driver, "segment", *numbers], folder).split()))
 
@@ -258,10 +258,11 @@ def systems(worldd: str, world_load: str, every: list[int], room: str) -> list[S
             found.append(System(f"{method} {ticks}", both, [], run))
     lacks = missing("postgres", "initdb", "pg_isready", "psql", "pgbench")
     found.append(System("PostgreSQL", both, lacks, functools.partial(run_postgres, postgres_user())))
-    lacks = missing("cc")
-    driver = "" if lacks else driver_of("sqlite_sets", room, "-lsqlite3")
-    lacks = lacks or ([] if driver else ["libsqlite3-dev"])
+    compiler = missing("cc")
+    driver = "" if compiler else driver_of("sqlite_sets", room, "-lsqlite3")
+    lacks = compiler or ([] if driver else ["libsqlite3-dev"])
     found.append(System("SQLite", (LIBRARY,), lacks, functools.partial(run_sqlite, driver)))
-    driver = "" if lacks else driver_of("device_calls", room)
-    found.append(System("device calls", (LIBRARY,), lacks, functools.partial(run_device_calls, driver)))
+    for name in ("device calls", "session threads"):
+        driver = "" if compiler else driver_of(name.replace(" ", "_"), room)
+        found.append(System(name, (LIBRARY,), compiler, functools.partial(run_calls, driver)))
     return found
