@@ -8,16 +8,16 @@ use std::sync::Arc;
 use std::sync::atomic::{AtomicU64, Ordering};
 
 /// So many written bytes are synced together.
-const PIECE_BYTES: u64 = 65_536;
+const PIECE_BYTES: u64 = 16_384;
 
 /// How many ticks may be played during one round before its image is written without pauses. The
 /// log has room for eight times as many.
 const PACED_TICKS: u64 = 8_192;
 
-/// The pause after a piece: 2 ms.
+/// The pause after a piece: half a millisecond.
 const PAUSE: timespec = timespec {
     tv_sec: 0,
-    tv_nsec: 2_000_000,
+    tv_nsec: 500_000,
 };
 
 /// How many ticks have ended, for the files that are paced by them. Its clones share the count.
@@ -86,7 +86,8 @@ impl Paced {
     /// a pause.
     pub fn ends_piece(&mut self, written: usize) -> bool
         ensures ends { IsTrue result
-            → (65536 ≤ self.old.unsynced + written) × (self.new.unsynced ≡ 0) }
+            → (16384 ≤ self.old.unsynced + written) × (self.new.unsynced ≡ 0) }
+        ensures begun { self.new.begun ≡ self.old.begun }
         ensures goes_on { result ≡ false
             → self.new.unsynced ≡ min (self.old.unsynced + written) last_count }
     {

@@ -220,14 +220,14 @@ fn time_of_writes(rt: &HostRuntime, disk: &mut FileDisk) -> Result<Duration, Fai
     Ok(begun.elapsed(rt)?)
 }
 
-// True if the writes take as long as two pauses, once so many ticks have ended.
+// True if the writes take as long as eight pauses, once so many ticks have ended.
 fn pauses_at(rt: &HostRuntime, disk: &mut FileDisk, pace: &Pace, ticks: u64) -> Result<bool, Fail> {
     pace.ticks_ended(ticks);
     Ok(time_of_writes(rt, disk)? >= Duration::from_millis(4))
 }
 
 #[test]
-fn a_paced_file_pauses_after_each_64_kib(rt: HostRuntime) -> Result<(), Fail> {
+fn a_paced_file_pauses_after_each_16_kib(rt: HostRuntime) -> Result<(), Fail> {
     let folder = new_folder(&rt, "paced")?;
     let mut disk = open(&rt, &folder, true)?;
     let pace = Pace::new(rt.alloc())?;
