@@ -1,6 +1,6 @@
 -- How far the groups of a segment go, and what the first bytes of a segment say of all of it.
 use Rattle.std.proofs.Common.{◌≡◌, ◌≢◌, inl, inr, ℕ, ◌+◌, ◌-◌, ◌*◌, ◌<◌, ◌≤◌, min, Bool, true, false, List, [], ◌∷◌, ◌++◌}
-use Rattle.std.proofs.Common.{length, get_or, take, drop, Some, None, refl, sym, ap, subst, ◌∙◌, append_assoc, arith}
+use Rattle.std.proofs.Common.{length, get_or, take, drop, Option, Some, None, IfSome, refl, sym, ap, subst, ◌∙◌, append_assoc, arith}
 use Rattle.std.specs.List.{flat_map, AllByRecursion}
 use Rattle.std.proofs.lemmas.Bool.Decides.{eqb_tells}
 use Rattle.std.proofs.lemmas.List.{drop_at, take_at, take-append-drop, take-append-le, drop-append-le, length-append, length-take-le, append-nil, get_or_append_left}
@@ -16,12 +16,13 @@ use Rattle.file_format.proofs.FormatLemmas.{marked_of-unmarked}
 use Rattle.action_log.specs.declared.format.TheConstants.{BASE_BYTES, BASE_PLACE, FIRST_GROUP, HEADER_BYTES, SEGMENT_TICKS, TICK_BYTES, ONE_TICK_GROUP_BYTES, SEGMENT_BYTES_MAX}
 use Rattle.action_log.specs.Segment.{Tick, joined, IsTick, tick_bytes, IsGroup, group_bytes, EndsGroups, spelled_base, Segment}
 use Rattle.action_log.specs.Segment.{ClosedSegment, MalformedSegment, OpenSegment, IsSegment, IsClosedSegment, IsOpenSegment}
-use Rattle.action_log.specs.Extent.{HasGroups, HasNoGroups, IsExtent, ReadsAlike, AreLeading}
+use Rattle.action_log.specs.declared.reader.extent.Extent.{Extent}
+use Rattle.action_log.specs.Extent.{HasGroups, HasNoGroups, IsExtent, IsExtentOfFirst, ReadsAlike, AreLeading, counted_to}
 use Rattle.action_log.specs.Reading.{group_at}
 use Rattle.action_log.proofs.ValueReadingLemmas.{IsBytes-drop, IsBytes-rest, found_is}
 use Rattle.action_log.proofs.ActionReadingLemmas.{group_reads, counted_bytes}
 use Rattle.action_log.proofs.GroupLemmas.{joined_with}
-use Rattle.action_log.proofs.SpellingLemmas.{all_push, length_tick}
+use Rattle.action_log.proofs.SpellingLemmas.{all_append, all_push, length_tick}
 use Rattle.action_log.proofs.ReadingLemmas.{header_parts, mark_again, spellings_apart, reads_once}
 
 -- ---- groups that lead bytes
@@ -452,3 +453,71 @@ extent_by bytes format base ticks groups rest ended fits long gate mark small le
       shut = shut;
       not_shut = not_shut;
     }
+
+-- ---- counting on from the extent of the first bytes
+
+-- groups that were counted lead these bytes, and end at this place
+pub record CountsOn (bytes : List ℕ) (format : Format) (base : ℕ) (to : ℕ × ℕ) : Type 0 where
+  pub done : List (List Tick)
+  pub are_groups : AllByRecursion (IsGroup format) done
+  pub parts : drop FIRST_GROUP bytes ≡ flat_map group_bytes done ++ drop to.0 bytes
+  pub counted : length (joined done) ≡ to.1
+  pub few : to.1 ≤ ticks_most base
+  pub within : to.0 ≤ length bytes
+
+counts_none : (bytes : List ℕ) (format : Format) (base : ℕ) → HEADER_BYTES ≤ length bytes → CountsOn bytes format base (FIRST_GROUP, 0)
+counts_none bytes format base long = record { done = []; are_groups = tt; parts = refl; counted = refl; few = omega arith; within = omega (arith, long) }
+
+counts_on : (bytes : List ℕ) (format : Format) (base first groups_end ticks : ℕ) (ended : Bool)
+    → marked_in bytes ≡ Some (format, base) → IsExtent (take first bytes) groups_end ticks ended → CountsOn bytes format base (groups_end, ticks)
+counts_on bytes format base first groups_end ticks ended mark x =
+    let behind = drop first bytes in
+    let front = front_bytes x.format x.base x.groups in
+    let first_is : take first bytes ≡ front ++ x.rest = front_is (take first bytes) x.format x.base x.groups x.rest x.leading in
+    let is : bytes ≡ front ++ (x.rest ++ behind) =
+    sym (take-append-drop first bytes) ∙ ap (λ (l : List ℕ). l ++ behind) first_is ∙ append_assoc front x.rest behind in
+    let has : HasGroups bytes x.format x.base x.groups (x.rest ++ behind) = record {
+      are_groups = x.leading.are_groups;
+      spelled = is ∙ front_then x.format x.base x.groups (x.rest ++ behind);
+      long = omega (arith, ap length (sym (take-append-drop first bytes)), length-append (take first bytes) behind, x.leading.long);
+      few = x.leading.few;
+      numbered = x.leading.numbered;
+    } in
+    let same = found_is (x.format, x.base) (format, base) (sym (has_mark bytes x.format x.base x.groups (x.rest ++ behind) has) ∙ mark) in
+    let same_base : x.base ≡ base = ap (λ (p : Format × ℕ). p.1) same in
+    let at_end : length front ≡ groups_end = omega (arith, x.place, ap length first_is, length-append front x.rest) in
+    record {
+      done = x.groups;
+      are_groups = subst (λ (f : Format). AllByRecursion (IsGroup f) x.groups) (ap (λ (p : Format × ℕ). p.0) same) x.leading.are_groups;
+      parts =
+          has_body bytes x.format x.base x.groups (x.rest ++ behind) has ∙ ap (λ (l : List ℕ). flat_map group_bytes x.groups ++ l)
+          (sym (drop_at front (x.rest ++ behind) groups_end at_end) ∙ ap (drop groups_end) (sym is));
+      counted = x.counted;
+      few = omega (arith, x.counted, within_most base (length (joined x.groups)) x.leading.few (omega (arith, x.leading.numbered, same_base)));
+      within = omega (arith, at_end, ap length is, length-append front (x.rest ++ behind));
+    }
+
+-- the groups before the place where counting begins
+pub counts_to : (bytes : List ℕ) (format : Format) (base : ℕ) (known : Option Extent) → HEADER_BYTES ≤ length bytes → marked_in bytes ≡ Some (format, base)
+    → IfSome known (IsExtentOfFirst bytes) → CountsOn bytes format base (counted_to known)
+counts_to bytes format base None long mark first = counts_none bytes format base long
+counts_to bytes format base (Some extent) long mark first = counts_on bytes format base first.0 extent.groups_end extent.ticks extent.ended mark first.1
+
+-- the groups that follow, and those before them
+pub leads_on : (bytes : List ℕ) (format : Format) (base : ℕ) (to : ℕ × ℕ) (more : List (List Tick)) (rest : List ℕ)
+    → (so_far : CountsOn bytes format base to) → AreLeading format (ticks_most base - to.1) (drop to.0 bytes) more rest
+    → AreLeading format (ticks_most base) (drop FIRST_GROUP bytes) (so_far.done ++ more) rest × (length (joined (so_far.done ++ more)) ≡ to.1 + length (joined more))
+leads_on bytes format base to more rest so_far leads =
+    let together : length (joined (so_far.done ++ more)) ≡ to.1 + length (joined more) =
+    omega (arith, ap length (flat_map-append (λ (group : List Tick). group) so_far.done more), length-append (joined so_far.done) (joined more), so_far.counted) in (
+      record {
+        are_groups = all_append (IsGroup format) so_far.done more so_far.are_groups leads.are_groups;
+        parts =
+            so_far.parts ∙ ap (λ (l : List ℕ). flat_map group_bytes so_far.done ++ l) leads.parts
+            ∙ sym (append_assoc (flat_map group_bytes so_far.done) (flat_map group_bytes more) rest)
+            ∙ ap (λ (l : List ℕ). l ++ rest) (sym (flat_map-append group_bytes so_far.done more));
+        few = omega (arith, together, leads.few, so_far.few);
+        last = λ group next is e. omega (arith, together, so_far.few, leads.last group next is e);
+      },
+      together,
+    )

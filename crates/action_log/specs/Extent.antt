@@ -1,12 +1,14 @@
 -- How far the groups go that lead a segment.
 use Rattle.std.specs.Prelude.{◌≡◌, ℕ, ◌+◌, ◌<◌, ◌≤◌, ◌↔◌, Bool, true, false, List, ◌∷◌, ◌++◌}
-use Rattle.std.specs.Prelude.{length}
+use Rattle.std.specs.Prelude.{length, take, Option, Some, None}
 use Rattle.std.specs.List.{flat_map, AllByRecursion}
 use Rattle.world_ticks.specs.declared.tick.TheConstants.{TICK_MAX}
 use Rattle.file_format.specs.declared.gate.TheConstants.{OPEN_GATE}
 use Rattle.file_format.specs.declared.format.Format.{Format}
 use Rattle.file_format.specs.Gate.{HasShutGate, HasNoShutGate}
-use Rattle.action_log.specs.declared.format.TheConstants.{HEADER_BYTES, SEGMENT_TICKS}
+use Rattle.action_log.specs.declared.format.TheConstants.{FIRST_GROUP, HEADER_BYTES}
+use Rattle.action_log.specs.declared.format.TheConstants.{SEGMENT_TICKS}
+use Rattle.action_log.specs.declared.reader.extent.Extent.{Extent}
 use Rattle.action_log.specs.Segment.{Tick, joined, IsGroup, group_bytes, spelled_base, Segment}
 use Rattle.action_log.specs.Segment.{IsSegment}
 
@@ -43,6 +45,11 @@ pub record IsExtent (bytes : List ℕ) (groups_end ticks : ℕ) (ended : Bool) :
   pub shut : ended ≡ true → HasShutGate rest
   pub not_shut : ended ≡ false → HasNoShutGate rest
 
+-- the extent of the first ones of these bytes
+abbrev pub IsExtentOfFirst : List ℕ → Extent → Type 0
+IsExtentOfFirst bytes extent =
+    (count : ℕ) × IsExtent (take count bytes) extent.groups_end extent.ticks extent.ended
+
 -- both have the same reading as a segment
 abbrev pub ReadsAlike : List ℕ → List ℕ → Type 0
 ReadsAlike one other = (segment : Segment) → IsSegment one segment ↔ IsSegment other segment
@@ -57,3 +64,8 @@ pub record AreLeading (format : Format) (most : ℕ) (bytes : List ℕ) (groups 
   pub last : (group : List Tick) (next : List ℕ) → IsGroup format group
       → rest ≡ group_bytes group ++ next
       → most < length (joined groups) + length group
+
+-- inside: the place up to which groups are counted, and the number of their ticks
+abbrev pub counted_to : Option Extent → ℕ × ℕ
+counted_to None = (FIRST_GROUP, 0)
+counted_to (Some extent) = (extent.groups_end, extent.ticks)

@@ -13,7 +13,7 @@ mod extent;
 mod replay;
 mod ticks;
 
-pub use self::extent::{Extent, extent_of};
+pub use self::extent::{Extent, extent_after, extent_of};
 use self::replay::replay_groups;
 use self::ticks::{Counts, count_all, read_ticks};
 use crate::format::{FIRST_GROUP, HEADER_BYTES, SEGMENT_TICKS};

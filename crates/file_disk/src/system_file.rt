@@ -161,9 +161,8 @@ impl FileDisk {
     }
 
     /// Paces the writes from now on. While play goes on, each 16 KiB are synced, and the thread
-    /// then pauses for half a millisecond: the device is never busy for long with what only an
-    /// image needs. Once 8,192 ticks have ended since the last call of `sync`, the file isn't paced
-    /// until the next.
+    /// then pauses for half a millisecond. So an image never keeps the device busy for long. Once
+    /// 8,192 ticks have ended since the last call of `sync`, the file isn't paced until the next.
     pub fn pace(&mut self, pace: Pace)
         ensures { self.new ≡ self.old }
     {

@@ -1,6 +1,6 @@
 -- The first bytes of a file, and how they read.
 use Rattle.std.proofs.Common.{◌≡◌, ◌≢◌, ◌⊎◌, inl, inr, ℕ, ◌+◌, ◌-◌, ◌<◌, ◌≤◌, min, Bool, true, false, List, [], ◌∷◌, ◌++◌, length}
-use Rattle.std.proofs.Common.{get_or, take, drop, Result, Ok, Err, OnOk, refl, sym, ap, subst, ◌∙◌, append_assoc, arith}
+use Rattle.std.proofs.Common.{get_or, take, drop, Option, Some, None, IfSome, IfNone, Result, Ok, Err, OnOk, refl, sym, ap, subst, ◌∙◌, append_assoc, arith}
 use Rattle.std.specs.List.{flat_map}
 use Rattle.std.proofs.lemmas.Bool.{cases_lt}
 use Rattle.std.proofs.lemmas.List.{drop_at, take-append-drop, take-take, take_all, length-append, length-take-le, length-drop, get_or-take, get_or-drop, append-nil}
@@ -9,6 +9,7 @@ use Rattle.file_format.specs.declared.gate.TheConstants.{OPEN_GATE}
 use Rattle.file_format.specs.Gate.{HasNoShutGate}
 use Rattle.action_log.specs.declared.format.TheConstants.{HEADER_BYTES, SEGMENT_BYTES_MAX}
 use Rattle.action_log.specs.Segment.{Tick, joined, group_bytes, spelled_base, EndsGroups, OpenSegment, IsSegment, IsOpenSegment}
+use Rattle.action_log.specs.declared.reader.extent.Extent.{Extent}
 use Rattle.action_log.specs.Extent.{HasGroups, HasNoGroups, IsExtent, ReadsAlike}
 use Rattle.action_log.proofs.ExtentLemmas.{of_open}
 use Rattle.image_files.specs.ImageRead.{IsFront}
@@ -57,6 +58,16 @@ with_rest file bytes first = sym (take-append-drop (length bytes) file) ∙ ap (
 -- all of the bytes are those of a file that has no more
 whole_file : (file bytes : List ℕ) → bytes ≡ take (length bytes) file → length file ≤ length bytes → bytes ≡ file
 whole_file file bytes first all = first ∙ take_all (length bytes) file all
+
+-- ---- the extent that is known
+
+pub extent_is : (bytes : List ℕ) (known : Option Extent) (extent : Extent) (ended : Bool) → known ≡ Some extent → extent.ended ≡ ended
+    → IfSome known (λ x. IsExtent bytes x.groups_end x.ticks x.ended) → IsExtent bytes extent.groups_end extent.ticks ended
+extent_is bytes known extent ended is so x =
+    subst (IsExtent bytes extent.groups_end extent.ticks) so (subst (λ (o : Option Extent). IfSome o (λ x. IsExtent bytes x.groups_end x.ticks x.ended)) is x)
+
+pub headless_is : (bytes : List ℕ) (known : Option Extent) → known ≡ None → IfNone known (HasNoGroups bytes) → HasNoGroups bytes
+headless_is bytes known is none = subst (λ (o : Option Extent). IfNone o (HasNoGroups bytes)) is none
 
 -- ---- when a segment is read as far as its bytes count
 

@@ -1,7 +1,12 @@
 -- The calls of a disk that a reader makes.
-use Rattle.std.specs.Prelude.{◌≡◌, ℕ, zero, suc, ◌+◌, ◌≤◌, Bool}
+use Rattle.std.specs.Prelude.{◌≡◌, ℕ, zero, suc, ◌+◌, ◌*◌, ◌≤◌, min, max, Bool}
 use Rattle.disk_model.specs.Disk.{Call, Length, Read, Write, Sync}
 use Rattle.disk_model.specs.declared.four_files.FourFiles.{FourFiles}
+use Rattle.file_readers.specs.declared.segment.TheConstants.{PIECE_BYTES, PIECE_BYTES_MAX}
+
+-- how far the pieces of a segment go, if so many of its bytes count
+abbrev pub furthest_piece : ℕ → ℕ
+furthest_piece count = max PIECE_BYTES (min (2 * count) (count + PIECE_BYTES_MAX))
 
 -- the call asks for the length, or for bytes up to this place
 abbrev pub AsksWithin : (most : ℕ) → Call → Type 0

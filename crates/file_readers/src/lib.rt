@@ -4,8 +4,8 @@
 //!
 //! The readers ask a file for no byte after the greatest length of its format. The bytes that they
 //! return are the first ones of the file, and read as all of it. An image's header is read first,
-//! and then the words that it counts. A segment is read in pieces, each as long as all before it,
-//! until its groups end.
+//! and then the words that it counts. A segment is read in pieces, each as long as all before it
+//! but of 1 MiB at most, until its groups end.
 #![tactic(auto)]
 
 mod forward;
@@ -14,5 +14,5 @@ mod segment;
 mod world_files;
 
 pub use image::{IMAGE_BYTES_MAX, read_image_file};
-pub use segment::{PIECE_BYTES, read_segment_file};
+pub use segment::{PIECE_BYTES, PIECE_BYTES_MAX, read_segment_file};
 pub use world_files::read_files;

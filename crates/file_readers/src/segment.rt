@@ -1,25 +1,30 @@
-ghost use Rattle.std.specs.Prelude.{◌≡◌, ◌⊎◌, ◌*◌, ◌<◌, ◌≤◌, ℕ, false, min, max, [], List, length};
-ghost use Rattle.std.specs.Prelude.{take, IsTrue, IfOk, IfErr, IfSome, IfNone, OnOk};
+ghost use Rattle.std.specs.Prelude.{◌≡◌, ◌⊎◌, ◌<◌, ◌≤◌, ℕ, false, min, [], List, Some, length};
+ghost use Rattle.std.specs.Prelude.{take, vec_capacity, IsTrue, IsOk, IfOk, IfErr, IfSome, IfNone};
+ghost use Rattle.std.specs.Prelude.{OnOk};
 ghost use Rattle.disk_model.specs.FourFiles.{KeepsFile, counted_device};
 ghost use Rattle.world_actions.specs.declared.action.Action.{Action};
-ghost use Rattle.action_log.specs.Extent.{IsExtent};
+ghost use Rattle.action_log.specs.Extent.{HasNoGroups, IsExtent};
+ghost use Rattle.action_log.specs.declared.reader.extent.Extent.{Extent};
 ghost use Rattle.action_log.specs.Segment.{IsOpenSegment};
 ghost use Rattle.action_log.specs.declared.format.TheConstants.{HEADER_BYTES, SEGMENT_BYTES_MAX};
 ghost use Rattle.file_readers.specs.Reading.{IsSegmentRead};
-ghost use Rattle.file_readers.specs.Asking.{OnlyAsked};
+ghost use Rattle.file_readers.specs.Asking.{OnlyAsked, furthest_piece};
 
 use crate::forward::read_forward;
-use action_log::{HEADER_BYTES, SEGMENT_BYTES_MAX, extent_of, segment_extents};
+use action_log::{Extent, HEADER_BYTES, SEGMENT_BYTES_MAX, extent_after, segment_extents};
 use disk_model::Disk;
 use std::alloc::Global;
 use world_actions::Refusal;
 
 /// The number of bytes of the first piece in which a segment is read. Each next piece is as long
-/// as all before it.
+/// as all before it, up to `PIECE_BYTES_MAX`.
 pub const PIECE_BYTES: usize = 65_536;
 
+/// The greatest number of bytes of a piece.
+pub const PIECE_BYTES_MAX: usize = 1_048_576;
+
 /// Reads a segment file as far as its bytes count. It is read in pieces until a gate ends its
-/// groups, or no later byte can make it a segment.
+/// groups, or no later byte can make it a segment. Each piece is judged once, right after its call.
 pub fn read_segment_file<D: Disk>(alloc: Global, disk: &mut D) -> Result<Vec<u8>, Refusal>
     ensures read { IsTrue D.honest
         → IfOk result (λ bytes. IsSegmentRead (D.content disk.old) bytes.items) }
@@ -28,7 +33,7 @@ pub fn read_segment_file<D: Disk>(alloc: Global, disk: &mut D) -> Result<Vec<u8>
     ensures most { IfOk result (λ bytes. length bytes.items ≤ SEGMENT_BYTES_MAX) }
     ensures asked { OnlyAsked D.called SEGMENT_BYTES_MAX disk.old disk.new }
     ensures no_further { IfOk result (λ bytes.
-        OnlyAsked D.called (max PIECE_BYTES (2 * length bytes.items)) disk.old disk.new) }
+        OnlyAsked D.called (furthest_piece (length bytes.items)) disk.old disk.new) }
     ensures kept { IsTrue D.honest → KeepsFile D.content D.may_leave disk.old disk.new }
     ensures faults { D.faults disk.new ≡ counted_device (D.faults disk.old) result }
     ensures refused { IfErr result (λ refusal.
@@ -37,21 +42,44 @@ pub fn read_segment_file<D: Disk>(alloc: Global, disk: &mut D) -> Result<Vec<u8>
     let most = disk.len()?.min(SEGMENT_BYTES_MAX as u64) as usize;
     let mut bytes = Vec::new(alloc);
     let mut end = most.min(PIECE_BYTES);
+    let mut known = None;
     loop {
+        reserve_pieces(&mut bytes, end, most)?;
         read_forward(disk, &mut bytes, end)?;
-        if let Some(count) = counting(&bytes, most) {
+        known = extent_after(&bytes, known);
+        if let Some(count) = counting(&bytes, most, known) {
             bytes.truncate(count);
             return Ok(bytes);
         }
-        end = most.min(2 * end);
+        end = most.min(end + end.min(PIECE_BYTES_MAX));
     }
 }
 
-// Returns how many of the first bytes of a segment count, or `None` if more of them have to
-// be read. No more than `most` may be read: all bytes of the file, or as many as the
+// Reserves memory up to a place if there is less, and as much again for later pieces: for at most
+// `most` bytes in all.
+fn reserve_pieces(bytes: &mut Vec<u8>, end: usize, most: usize) -> Result<(), Refusal>
+    requires further { length bytes.old.items ≤ end }
+    requires inside { end ≤ most }
+    requires bound { most ≤ SEGMENT_BYTES_MAX }
+    ensures kept { bytes.new.items ≡ bytes.old.items }
+    ensures reserved { OnOk result (end ≤ vec_capacity bytes.new) }
+    ensures enough { end ≤ vec_capacity bytes.old → (bytes.new ≡ bytes.old) × IsOk result }
+    ensures refused { IfErr result (λ refusal. refusal ≡ Refusal.NoMemory) }
+{
+    if bytes.capacity() < end {
+        bytes.reserve_exact(most.min(2 * end) - bytes.len())?;
+    }
+    Ok(())
+}
+
+// Returns how many of the first bytes of a segment count, by their extent, or `None` if more of
+// them have to be read. No more than `most` may be read: all bytes of the file, or as many as the
 // longest segment has.
-fn counting(bytes: &[u8], most: usize) -> Option<usize>
-    requires { (length bytes.now ≡ most) ⊎ (HEADER_BYTES ≤ length bytes.now) }
+fn counting(bytes: &[u8], most: usize, extent: Option<Extent>) -> Option<usize>
+    requires long { (length bytes.now ≡ most) ⊎ (HEADER_BYTES ≤ length bytes.now) }
+    requires extent { IfSome extent (λ extent.
+        IsExtent bytes.now extent.groups_end extent.ticks extent.ended) }
+    requires headless { IfNone extent (HasNoGroups bytes.now) }
     ensures enough { IfSome result (λ count. (file : List ℕ)
         → bytes.now ≡ take (length bytes.now) file
         → length bytes.now ≤ most → most ≡ min (length file) SEGMENT_BYTES_MAX
@@ -63,10 +91,10 @@ fn counting(bytes: &[u8], most: usize) -> Option<usize>
         → place ≤ length bytes.now
         → IsExtent (take place bytes.now) groups_end ticks false → place ≤ count) }
     ensures more { IfNone result ((length bytes.now < most)
-        × ((groups_end : ℕ) × (ticks : ℕ) × IsExtent bytes.now groups_end ticks false)) }
+        × ((known : Extent) × (extent ≡ Some known) × (known.ended ≡ false))) }
 {
     segment_extents();
-    match extent_of(bytes) {
+    match extent {
         Some(extent) if extent.ended => Some(extent.groups_end + 1),
         Some(_) if bytes.len() < most => None,
         _ => Some(bytes.len()),

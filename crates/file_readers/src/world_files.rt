@@ -1,10 +1,9 @@
-ghost use Rattle.std.specs.Prelude.{◌≡◌, ◌≢◌, ◌⊎◌, ◌*◌, max, length, IsTrue, Err, IfOk, IfErr};
+ghost use Rattle.std.specs.Prelude.{◌≡◌, ◌≢◌, ◌⊎◌, length, IsTrue, Err, IfOk, IfErr};
 ghost use Rattle.disk_model.specs.FourFiles.{EachFile, KeepsFile, fault_counts, OneGrew};
 ghost use Rattle.action_log.specs.declared.format.TheConstants.{SEGMENT_BYTES_MAX};
 ghost use Rattle.file_readers.specs.declared.image.TheConstants.{IMAGE_BYTES_MAX};
-ghost use Rattle.file_readers.specs.declared.segment.TheConstants.{PIECE_BYTES};
 ghost use Rattle.file_readers.specs.Reading.{AreFilesRead};
-ghost use Rattle.file_readers.specs.Asking.{FilesOnlyAsked};
+ghost use Rattle.file_readers.specs.Asking.{FilesOnlyAsked, furthest_piece};
 
 use crate::image::read_image_file;
 use crate::segment::read_segment_file;
@@ -24,8 +23,7 @@ pub fn read_files<D: Disk>(
         files.old files.new }
     ensures no_further { IfOk result (λ read. FilesOnlyAsked D.called
         (length read.image_a.items) (length read.image_b.items)
-        (max PIECE_BYTES (2 * length read.log_a.items))
-        (max PIECE_BYTES (2 * length read.log_b.items))
+        (furthest_piece (length read.log_a.items)) (furthest_piece (length read.log_b.items))
         files.old files.new) }
     ensures kept { IsTrue D.honest
         → EachFile files.old files.new (KeepsFile D.content D.may_leave) }

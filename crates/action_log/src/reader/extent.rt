@@ -2,7 +2,8 @@ ghost use Rattle.std.specs.Prelude.{◌≡◌, ◌≤◌, List, length, IfSome, 
 ghost use Rattle.world_actions.specs.declared.action.Action.{Action};
 ghost use Rattle.action_log.specs.declared.format.TheConstants.{SEGMENT_TICKS};
 ghost use Rattle.action_log.specs.Segment.{joined};
-ghost use Rattle.action_log.specs.Extent.{HasNoGroups, IsExtent, AreLeading};
+ghost use Rattle.action_log.specs.Extent.{HasNoGroups, IsExtent, IsExtentOfFirst, counted_to};
+ghost use Rattle.action_log.specs.Extent.{AreLeading};
 
 use super::ticks::{behind_gate, count_group};
 use crate::format::{FIRST_GROUP, HEADER_BYTES, SEGMENT_TICKS};
@@ -28,6 +29,17 @@ pub fn extent_of(bytes: &[u8]) -> Option<Extent>
         IsExtent bytes.now extent.groups_end extent.ticks extent.ended) }
     ensures none { IfNone result (HasNoGroups bytes.now) }
 {
+    extent_after(bytes, None)
+}
+
+/// Returns the same as `extent_of`, and counts on from the extent of the first of these bytes, if
+/// it is known. It reads no group a second time.
+pub fn extent_after(bytes: &[u8], known: Option<Extent>) -> Option<Extent>
+    requires { IfSome known (IsExtentOfFirst bytes.now) }
+    ensures some { IfSome result (λ extent.
+        IsExtent bytes.now extent.groups_end extent.ticks extent.ended) }
+    ensures none { IfNone result (HasNoGroups bytes.now) }
+{
     if bytes.len() < HEADER_BYTES || bytes[0] != OPEN_GATE {
         return None;
     }
@@ -36,12 +48,23 @@ pub fn extent_of(bytes: &[u8]) -> Option<Extent>
         return None;
     }
     let most = SEGMENT_TICKS.min((TICK_MAX - base) as usize);
-    let (ticks, behind) = behind_groups(format, &bytes[FIRST_GROUP..], most);
+    let (place, before) = counted_to(known);
+    let (more, behind) = behind_groups(format, &bytes[place..], most - before);
     Some(Extent {
         groups_end: bytes.len() - behind.len(),
-        ticks,
+        ticks: before + more,
         ended: is_shut(behind),
     })
+}
+
+// Returns the place up to which groups are counted, and the number of their ticks.
+fn counted_to(known: Option<Extent>) -> (usize, usize)
+    ensures { result ≡ counted_to known }
+{
+    match known {
+        Some(extent) => (extent.groups_end, extent.ticks),
+        None => (FIRST_GROUP, 0),
+    }
 }
 
 // Counts the ticks of the whole groups that lead these bytes, up to `most` ticks, and returns the

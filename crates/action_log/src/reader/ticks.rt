@@ -1,7 +1,7 @@
 #![tactic(auto, unfolding(crate::specs::Reading::number_at, crate::specs::Reading::two_at, crate::specs::Reading::fields_at, crate::specs::Reading::action_at))]
 
-ghost use Rattle.std.specs.Prelude.{◌≡◌, ◌≤◌, ◌<◌, ◌*◌, [], ◌∷◌, List, length, Some, None, IfSome};
-ghost use Rattle.std.specs.Prelude.{IfNone, IfOk, IfErr, OnOk};
+ghost use Rattle.std.specs.Prelude.{◌≡◌, ◌≤◌, ◌<◌, ◌*◌, ℕ, [], ◌∷◌, List, length, Some, None};
+ghost use Rattle.std.specs.Prelude.{IfSome, IfNone, IfOk, IfErr, OnOk};
 ghost use Rattle.world_actions.specs.declared.action.Action.{Action};
 ghost use Rattle.file_format.specs.declared.format.Format.{Format};
 ghost use Rattle.world_ticks.specs.declared.tick.TheConstants.{TICK_ACTIONS};
@@ -9,7 +9,7 @@ ghost use Rattle.action_log.specs.declared.format.TheConstants.{GROUP_TICKS, SEG
 ghost use Rattle.action_log.specs.Segment.{EndsGroups, joined};
 ghost use Rattle.action_log.specs.Reading.{number_at, fields_at, action_at, several_at, tick_at};
 ghost use Rattle.action_log.specs.Reading.{group_at, groups_of, ticks_of, found_in, RefusesWhere};
-ghost use Rattle.action_log.specs.Reading.{AreAdded};
+ghost use Rattle.action_log.specs.Reading.{HasWidth, AreAdded};
 ghost use Rattle.action_log.specs.TickList.{actions_of};
 
 use crate::format::{ADD, CAP, GROUP_TICKS, SET, SWAP, TRANSFER, last_kind};
@@ -49,15 +49,25 @@ fn read_u64(bytes: &[u8]) -> Option<(u64, &[u8])>
     Some((u64_at(bytes, 0), &bytes[8..]))
 }
 
-/// Reads an action of a format, and returns it with the bytes after it.
-pub(super) fn read_action(format: Format, bytes: &[u8]) -> Option<(Action, &[u8])>
-    ensures { found_in result ≡ action_at format bytes.now }
+// Reads the kind of an action of a format, and returns it with the bytes after it.
+fn read_kind(format: Format, bytes: &[u8]) -> Option<(u8, &[u8])>
+    ensures some { IfSome result (λ found.
+        action_at format bytes.now ≡ fields_at found.0 found.1.now) }
+    ensures none { IfNone result (action_at format bytes.now ≡ None) }
 {
     let (kind, fields) = bytes.split_first()?;
     if *kind > last_kind(format) {
         return None;
     }
-    read_fields(*kind, fields)
+    Some((*kind, fields))
+}
+
+/// Reads an action of a format, and returns it with the bytes after it.
+pub(super) fn read_action(format: Format, bytes: &[u8]) -> Option<(Action, &[u8])>
+    ensures { found_in result ≡ action_at format bytes.now }
+{
+    let (kind, fields) = read_kind(format, bytes)?;
+    read_fields(kind, fields)
 }
 
 // Reads the fields of an action of a kind, and returns the action with the bytes after it.
@@ -139,6 +149,36 @@ pub(super) fn tick_count(bytes: &[u8]) -> Option<(usize, &[u8])>
     Some((count, rest))
 }
 
+// Returns the number of bytes of the fields of an action of a kind, if there is such a kind.
+#[tactic(auto, using(crate::proofs::WidthLemmas::set_width, crate::proofs::WidthLemmas::add_width, crate::proofs::WidthLemmas::transfer_width, crate::proofs::WidthLemmas::swap_width, crate::proofs::WidthLemmas::cap_width))]
+fn field_bytes(kind: u8) -> Option<usize>
+    ensures some { IfSome result (HasWidth (fields_at kind)) }
+    ensures none { IfNone result ((fields : List ℕ) → fields_at kind fields ≡ None) }
+{
+    match kind {
+        SET => Some(4 + 8),
+        ADD => Some(4 + 8),
+        TRANSFER => Some(4 + 4 + 8),
+        SWAP => Some(4 + 4),
+        CAP => Some(4 + 8),
+        _ => None,
+    }
+}
+
+// Returns the bytes after an action of a format, if they begin with one. It reads only the kind.
+fn skip_action(format: Format, bytes: &[u8]) -> Option<&[u8]>
+    ensures some { IfSome result (λ rest. (action : Action)
+        × (action_at format bytes.now ≡ Some (action, rest.now))) }
+    ensures none { IfNone result (action_at format bytes.now ≡ None) }
+{
+    let (kind, fields) = read_kind(format, bytes)?;
+    let width = field_bytes(kind)?;
+    if fields.len() < width {
+        return None;
+    }
+    Some(&fields[width..])
+}
+
 // Returns the number of a tick's actions, and the bytes after the tick, if there is one.
 fn count_tick(format: Format, bytes: &[u8]) -> Option<(usize, &[u8])>
     ensures some { IfSome result (λ found. (tick : List Action)
@@ -148,8 +188,7 @@ fn count_tick(format: Format, bytes: &[u8]) -> Option<(usize, &[u8])>
 {
     let (count, mut rest) = action_count(bytes)?;
     for _ in 0..count {
-        let (_action, next) = read_action(format, rest)?;
-        rest = next;
+        rest = skip_action(format, rest)?;
     }
     Some((count, rest))
 }

@@ -1,8 +1,9 @@
-use Rattle.std.proofs.Common.{◌≡◌, ◌⊎◌, ℕ, ◌-◌, ◌*◌, ◌≤◌, false, min, length, take, IsTrue}
+use Rattle.std.proofs.Common.{◌≡◌, ◌⊎◌, ◌-◌, ◌≤◌, false, min, length, take, Some, None, IsTrue}
 use Rattle.disk_model.specs.FourFiles.{KeepsFile}
+use Rattle.action_log.specs.declared.reader.extent.Extent.{Extent}
 use Rattle.action_log.specs.Extent.{IsExtent}
 use Rattle.action_log.specs.declared.format.TheConstants.{SEGMENT_BYTES_MAX}
-use Rattle.file_readers.specs.Asking.{OnlyAsked}
+use Rattle.file_readers.specs.Asking.{OnlyAsked, furthest_piece}
 use Rattle.file_readers.specs.declared.segment.TheConstants.{PIECE_BYTES}
 use Rattle.file_readers.proofs.segment.read_segment_file.Given as goal
 
@@ -18,7 +19,7 @@ invariant-loop-bytes g l = record {
   kept : IsTrue g.D.Disk.honest → KeepsFile g.D.Disk.content g.D.Disk.may_leave l.fn.disk l.disk;
   faults : g.D.Disk.faults l.disk ≡ g.D.Disk.faults l.fn.disk;
   asked : OnlyAsked g.D.Disk.called (length l.bytes.items) l.fn.disk l.disk;
-  pieces : (l.end ≤ PIECE_BYTES) ⊎ ((l.end ≤ 2 * length l.bytes.items) × ((groups_end : ℕ) × (ticks : ℕ) × IsExtent l.bytes.items groups_end ticks false));
+  pieces : ((l.end ≤ PIECE_BYTES) × (l.known ≡ None)) ⊎ ((l.end ≤ furthest_piece (length l.bytes.items)) × ((extent : Extent) × (l.known ≡ Some extent) × (extent.ended ≡ false) × IsExtent l.bytes.items extent.groups_end extent.ticks extent.ended));
 }
 
 abbrev pub decreases-loop-bytes : goal.decreases-loop-bytes
