@@ -75,7 +75,7 @@ module _ {D : Type 0} (content : D → List ℕ) (leaves : D → List ℕ → Ty
 closed_not_occupied : {D : Type 0} (file : D → List ℕ) (folder : List ℕ) (files : FourFiles D) (ending : Ending)
     → FilesAreClosed file files → ReportsUnmade file folder files ending → IsOccupied ending → ⊥
 closed_not_occupied file folder files (Fault NotEmpty) closed reported occupied =
-    ⊎_elim (λ is. absurd cc) (⊎_elim (λ is. absurd cc) (λ is. is.1 closed)) reported
+    ⊎_elim (λ is. absurd cc) (λ is. absurd cc) reported
 closed_not_occupied file folder files (Fault refusal) closed reported occupied = absurd occupied
 closed_not_occupied file folder files (Occupied named) closed reported occupied =
     ⊎_elim (λ is. is.1 closed.image_a_closed)

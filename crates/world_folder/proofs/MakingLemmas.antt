@@ -1,5 +1,5 @@
 -- Why no world is made.
-use Rattle.std.proofs.Common.{◌≡◌, ◌⊎◌, inl, inr, ⊎_elim, Ok, Err, ℕ, List, [], refl, sym, ap, subst, ◌∙◌, arith}
+use Rattle.std.proofs.Common.{◌≡◌, ◌⊎◌, inl, inr, ⊎_elim, Ok, Err, ℕ, List, [], replicate, refl, sym, ap, subst, ◌∙◌, arith}
 use Rattle.std.specs.Path.{path_buf_bytes, path_join}
 use Rattle.world_actions.specs.declared.refusal.Refusal.{Refusal}
 use Rattle.world_actions.specs.declared.refusal.Refusal.TheVariants.{NoMemory, Device, NotEmpty, NoImage}
@@ -9,55 +9,14 @@ use Rattle.disk_model.specs.FourFiles.{EachFile, KeepsFile}
 use Rattle.image_files.specs.Image.{Image, Closed, Open, image_of}
 use Rattle.action_log.specs.Segment.{ClosedSegment, IsSegment}
 use Rattle.recovery.specs.Recovery.{Recovers, BothRead}
-use Rattle.recovery.specs.Sound.{HoldsWorld, IsSoundReading, IsFreshImage}
+use Rattle.recovery.specs.Sound.{HoldsWorld, IsSoundReading, IsFresh, IsFreshImage}
 use Rattle.file_readers.specs.Reading.{AreFilesRead}
-use Rattle.world_start.specs.Fresh.{AreClosed, AreNotMade, FilesAreClosed}
+use Rattle.world_start.specs.Opening.{AreSynced}
+use Rattle.world_start.specs.Fresh.{AreClosed, AreMade, AreNotMade, FilesAreClosed}
 use Rattle.world_folder.specs.declared.ending.Ending.{Ending}
 use Rattle.world_folder.specs.declared.ending.Ending.TheVariants.{Fault, Occupied}
 use Rattle.world_folder.specs.declared.ending.Occupied.{Occupied as OpenFile}
 use Rattle.world_folder.specs.Making.{IsFirstOpen, ReportsUnmade, IsUnmade, HoldsWords, HoldsNoOther, recovery_of_words}
-
--- the bytes of four files
-abbrev Four : Type 0
-Four = List ℕ × List ℕ × List ℕ × List ℕ
-
-module _ {D : Type 0} (file : D → List ℕ) where
-  -- a report of files is also one of files with the same bytes
-  reports_before : (folder : List ℕ) (files left : FourFiles D) (ending : Ending)
-      → file left.image_a ≡ file files.image_a → file left.image_b ≡ file files.image_b → file left.log_a ≡ file files.log_a → file left.log_b ≡ file files.log_b
-      → ReportsUnmade file folder left ending → ReportsUnmade file folder files ending
-  reports_before folder files left (Fault refusal) a b la lb reported =
-      subst (λ (x : Four). (refusal ≡ NoMemory) ⊎ ((refusal ≡ Device) ⊎ ((refusal ≡ NotEmpty) × ¬ AreClosed x.0 x.1 x.2 x.3))) (λ i. (a i, b i, la i, lb i)) reported
-  reports_before folder files left (Occupied named) a b la lb reported =
-      (reported.0, reported.1, subst (λ (x : Four). IsFirstOpen x.0 x.1 x.2 x.3 reported.0) (λ i. (a i, b i, la i, lb i)) reported.2)
-  reports_before folder files left other a b la lb reported = absurd reported
-
-module _ {D : Type 0} (file : D → List ℕ) (leaves : D → List ℕ → Type 0) where
-  kept_on : {old mid new : D} → KeepsFile file leaves old mid → KeepsFile file leaves mid new → KeepsFile file leaves old new
-  kept_on first second = record {
-    same_content = second.same_content ∙ first.same_content;
-    crash = λ outcome may. first.crash outcome (second.crash outcome may);
-  }
-
-  -- no world was made over a file that isn't closed, and the files were read once more
-  pub occupied_unmade : (folder : List ℕ) (files : FourFiles D) (cells : ℕ) (left after : FourFiles D) (ending : Ending)
-      → AreNotMade file leaves files cells NotEmpty left → (¬ FilesAreClosed file left → ReportsUnmade file folder left ending)
-      → EachFile left after (KeepsFile file leaves) → IsUnmade file leaves folder files cells ending after
-  occupied_unmade folder files cells left after ending n reports again =
-      let k = n.kept (λ is. absurd cc) in
-      let one_is : ¬ FilesAreClosed file files = n.not_empty refl in
-      let one_left : ¬ FilesAreClosed file left =
-      (λ closed. one_is (subst (λ (x : Four). AreClosed x.0 x.1 x.2 x.3) (λ i. (k.image_a.same_content i, k.image_b.same_content i, k.log_a.same_content i, k.log_b.same_content i)) closed)) in
-      record {
-        reported = reports_before file folder files left ending k.image_a.same_content k.image_b.same_content k.log_a.same_content k.log_b.same_content (reports one_left);
-        kept = λ other. record {
-          image_a = kept_on k.image_a again.image_a;
-          image_b = kept_on k.image_b again.image_b;
-          log_a = kept_on k.log_a again.log_a;
-          log_b = kept_on k.log_b again.log_b;
-        };
-        safe = λ synced closed. absurd (one_is closed);
-      }
 
 -- a fault names one refusal
 pub device_named : (refusal : Refusal) → Fault refusal ≡ Fault Device → refusal ≡ Device
@@ -187,14 +146,97 @@ module _ {D : Type 0} (file : D → List ℕ) (leaves : D → List ℕ → Type 
   words_made files read image words closed kept is only =
       words_are_made words files (record { image_a = image; image_b = read.image_b; log_a = read.log_a; log_b = read.log_b }) closed is only kept.image_b kept.log_a kept.log_b
 
-  -- no image is written over files of which one isn't closed
-  pub not_closed_unmade : (folder words : List ℕ) (files left : FourFiles D) (ending : Ending) → ¬ FilesAreClosed file files
-      → ReportsUnmade file folder files ending → EachFile files left (KeepsFile file leaves) → HoldsNoOther file leaves folder files words ending left
-  not_closed_unmade folder words files left ending not_closed reported kept = record {
+  kept_on : {old mid new : D} → KeepsFile file leaves old mid → KeepsFile file leaves mid new → KeepsFile file leaves old new
+  kept_on first second = record {
+    same_content = second.same_content ∙ first.same_content;
+    crash = λ outcome may. first.crash outcome (second.crash outcome may);
+  }
+
+  closed_on : (files read : FourFiles D) → EachFile files read (KeepsFile file leaves) → FilesAreClosed file files → FilesAreClosed file read
+  closed_on files read kept closed = record {
+    image_a_closed = ap image_of kept.image_a.same_content ∙ closed.image_a_closed;
+    image_b_closed = ap image_of kept.image_b.same_content ∙ closed.image_b_closed;
+    log_a_closed = subst (λ (l : List ℕ). IsSegment l ClosedSegment) (sym kept.log_a.same_content) closed.log_a_closed;
+    log_b_closed = subst (λ (l : List ℕ). IsSegment l ClosedSegment) (sym kept.log_b.same_content) closed.log_b_closed;
+  }
+
+  synced_on : (files read : FourFiles D) → EachFile files read (KeepsFile file leaves) → AreSynced file leaves files → AreSynced file leaves read
+  synced_on files read kept synced = record {
+    image_a = still_synced files.image_a read.image_a kept.image_a synced.image_a;
+    image_b = still_synced files.image_b read.image_b kept.image_b synced.image_b;
+    log_a = still_synced files.log_a read.log_a kept.log_a synced.log_a;
+    log_b = still_synced files.log_b read.log_b kept.log_b synced.log_b;
+  }
+
+  -- a crash leaves closed files of synced ones that were only read
+  left_closed : (files read : FourFiles D) (a b la lb : List ℕ) → EachFile files read (KeepsFile file leaves) → AreSynced file leaves files → FilesAreClosed file files
+      → leaves read.image_a a → leaves read.image_b b → leaves read.log_a la → leaves read.log_b lb → AreClosed a b la lb
+  left_closed files read a b la lb kept synced closed left_a left_b left_la left_lb = record {
+    image_a_closed = ap image_of (left_as files.image_a read.image_a a kept.image_a synced.image_a left_a) ∙ closed.image_a_closed;
+    image_b_closed = ap image_of (left_as files.image_b read.image_b b kept.image_b synced.image_b left_b) ∙ closed.image_b_closed;
+    log_a_closed = subst (λ (l : List ℕ). IsSegment l ClosedSegment) (sym (left_as files.log_a read.log_a la kept.log_a synced.log_a left_la)) closed.log_a_closed;
+    log_b_closed = subst (λ (l : List ℕ). IsSegment l ClosedSegment) (sym (left_as files.log_b read.log_b lb kept.log_b synced.log_b left_lb)) closed.log_b_closed;
+  }
+
+  still_fresh : (files read : FourFiles D) (words : List ℕ) → EachFile files read (KeepsFile file leaves) → AreSynced file leaves files → FilesAreClosed file files
+      → IsFresh (leaves read.image_a) (leaves read.image_b) (leaves read.log_a) (leaves read.log_b) words
+  still_fresh files read words kept synced closed a b la lb left_a left_b left_la left_lb =
+      let left = left_closed files read a b la lb kept synced closed left_a left_b left_la left_lb in
+      record {
+        a = ClosedSegment;
+        b = ClosedSegment;
+        reads_a = left.log_a_closed;
+        reads_b = left.log_b_closed;
+        holds = record {
+          image_a_fresh = fresh_image (image_of a) words (inl left.image_a_closed);
+          image_b_fresh = fresh_image (image_of b) words (inl left.image_b_closed);
+          log_a_closed = refl;
+          log_b_closed = refl;
+        };
+      }
+
+  -- no world is made of files that were only read
+  pub read_unmade : (folder : List ℕ) (files read : FourFiles D) (cells : ℕ) (ending : Ending) → ReportsUnmade file folder files ending
+      → EachFile files read (KeepsFile file leaves) → IsUnmade file leaves folder files cells ending read
+  read_unmade folder files read cells ending reported kept = record {
     reported = reported;
     kept = λ other. kept;
-    safe = λ synced closed. absurd (not_closed closed);
-    fresh = λ synced closed. absurd (not_closed closed);
+    safe = λ synced closed. inl (still_fresh files read (replicate cells 0) kept synced closed);
+  }
+
+  pub read_no_other : (folder words : List ℕ) (files read : FourFiles D) (ending : Ending) → ReportsUnmade file folder files ending
+      → EachFile files read (KeepsFile file leaves) → HoldsNoOther file leaves folder files words ending read
+  read_no_other folder words files read ending reported kept = record {
+    reported = reported;
+    kept = λ other. kept;
+    safe = λ synced closed a b la lb left_a left_b left_la left_lb.
+        inl (none_stands a b la lb (left_closed files read a b la lb kept synced closed left_a left_b left_la left_lb));
+    fresh = λ synced closed. still_fresh files read words kept synced closed;
+  }
+
+  -- a world is made of closed files that were read before, or none
+  pub zeros_made : (files read made : FourFiles D) (cells : ℕ) → FilesAreClosed file files → EachFile files read (KeepsFile file leaves)
+      → AreMade file leaves read cells made → AreMade file leaves files cells made
+  zeros_made files read made cells closed kept is = record {
+    closed = closed;
+    sound = λ synced. is.sound (synced_on files read kept synced);
+    synced = λ synced. is.synced (synced_on files read kept synced);
+    log = is.log;
+  }
+
+  pub zeros_unmade : (folder : List ℕ) (files read left : FourFiles D) (cells : ℕ) (refusal : Refusal) → FilesAreClosed file files → EachFile files read (KeepsFile file leaves)
+      → (refusal ≡ NotEmpty) ⊎ ((refusal ≡ NoMemory) ⊎ (refusal ≡ Device)) → AreNotMade file leaves read cells refusal left
+      → IsUnmade file leaves folder files cells (Fault refusal) left
+  zeros_unmade folder files read left cells refusal closed kept why none = record {
+    reported = ⊎_elim (λ not_empty. absurd (none.not_empty not_empty (closed_on files read kept closed))) (λ other. other) why;
+    kept = λ other. (
+        let then = none.kept (λ is. other (ap Fault is)) in record {
+          image_a = kept_on kept.image_a then.image_a;
+          image_b = kept_on kept.image_b then.image_b;
+          log_a = kept_on kept.log_a then.log_a;
+          log_b = kept_on kept.log_b then.log_b;
+        });
+    safe = λ synced _. none.safe (synced_on files read kept synced) (closed_on files read kept closed);
   }
 
   -- no image is known to be written over the first of four closed files, which were read before
@@ -204,7 +246,7 @@ module _ {D : Type 0} (file : D → List ℕ) (leaves : D → List ℕ → Type 
       → (Only (file read.image_a) (leaves read.image_a) → (left : List ℕ) → leaves image left → (image_of left ≡ Closed) ⊎ (image_of left ≡ Open 0 words))
       → HoldsNoOther file leaves folder files words (Fault refusal) (record { image_a = image; image_b = read.image_b; log_a = read.log_a; log_b = read.log_b })
   unwritten folder words files read image refusal closed kept why memory leaves_so = record {
-    reported = ⊎_elim (λ none. inl none) (λ device. inr (inl device)) why;
+    reported = why;
     kept = λ other. record {
       image_a = subst (λ (disk : D). KeepsFile file leaves files.image_a disk) (sym (memory (⊎_elim (λ none. none) (λ device. absurd (other (ap Fault device))) why))) kept.image_a;
       image_b = kept.image_b;

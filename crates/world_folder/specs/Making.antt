@@ -1,7 +1,7 @@
 -- The results of making a world in a folder.
 use Rattle.std.specs.Prelude.{◌≡◌, ◌≢◌, ◌⊎◌, ℕ, Bool, List, [], Ok, Err, replicate}
 use Rattle.std.specs.Path.{path_buf_bytes, path_join}
-use Rattle.world_actions.specs.declared.refusal.Refusal.TheVariants.{NoMemory, Device, NotEmpty}
+use Rattle.world_actions.specs.declared.refusal.Refusal.TheVariants.{NoMemory, Device}
 use Rattle.world_actions.specs.declared.refusal.Refusal.TheVariants.{NoImage}
 use Rattle.file_format.specs.declared.slot.Slot.TheVariants.{A}
 use Rattle.disk_model.specs.Disk.{Call, Only}
@@ -38,9 +38,7 @@ module _ {D : Type 0} (file : D → List ℕ) where
       (name : List ℕ) × (path_buf_bytes reported.path ≡ path_join folder name)
       × IsFirstOpen (file files.image_a) (file files.image_b)
       (file files.log_a) (file files.log_b) name
-  ReportsUnmade folder files (Fault refusal) =
-      (refusal ≡ NoMemory)
-      ⊎ ((refusal ≡ Device) ⊎ ((refusal ≡ NotEmpty) × ¬ FilesAreClosed file files))
+  ReportsUnmade folder files (Fault refusal) = (refusal ≡ NoMemory) ⊎ (refusal ≡ Device)
   ReportsUnmade folder files other = ⊥
 
 module _ {D : Type 0} (file : D → List ℕ) (leaves : D → List ℕ → Type 0) where

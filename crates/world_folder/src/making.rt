@@ -1,12 +1,13 @@
-ghost use Rattle.std.specs.Prelude.{◌≡◌, ◌≢◌, ◌⊎◌, ◌≤◌, length, IsTrue, IfOk, IfErr};
+ghost use Rattle.std.specs.Prelude.{◌≡◌, ◌⊎◌, ◌≤◌, length, IsTrue, Err, IfOk, IfErr, OnOk};
 ghost use Rattle.std.specs.Path.{path_buf_bytes, path_join};
 ghost use Rattle.world_actions.specs.declared.world.TheConstants.{CELLS};
 ghost use Rattle.disk_model.specs.FourFiles.{EachFile, KeepsFile, fault_counts};
 ghost use Rattle.action_log.specs.declared.format.TheConstants.{SEGMENT_BYTES_MAX};
 ghost use Rattle.file_readers.specs.declared.image.TheConstants.{IMAGE_BYTES_MAX};
 ghost use Rattle.file_readers.specs.Asking.{FilesOnlyAsked};
+ghost use Rattle.file_readers.specs.Reading.{AreFilesRead};
 ghost use Rattle.world_start.specs.Opening.{SomeGrew};
-ghost use Rattle.world_start.specs.Fresh.{AreClosed, AreMade, FilesAreClosed};
+ghost use Rattle.world_start.specs.Fresh.{AreClosed, AreMade};
 ghost use Rattle.world_folder.specs.declared.ending.Occupied.{Occupied as Open};
 ghost use Rattle.world_folder.specs.Ending.{IsFault};
 ghost use Rattle.world_actions.specs.World.{IsWorld};
@@ -70,13 +71,12 @@ pub fn make_in<D: Disk>(
         → SomeGrew (fault_counts D.faults files) (fault_counts D.faults unmade.0)) }
     ensures fault { IfErr result (λ unmade. IsFault unmade.1) }
 {
+    let mut files = files;
+    if let Err(ending) = closed_bytes(alloc, folder, &mut files) {
+        return Err((files, ending));
+    }
     match fresh_files(alloc, cells, files) {
         Ok(files) => Ok((files, Made { cells })),
-        Err((files, Refusal::NotEmpty)) => {
-            let mut files = files;
-            let ending = occupied(alloc, folder, &mut files);
-            Err((files, ending))
-        }
         Err((files, refusal)) => Err((files, Ending::Fault(refusal))),
     }
 }
@@ -103,14 +103,10 @@ pub fn make_of_words<D: Disk>(
     ensures fault { IfErr result (λ unmade. IsFault unmade.1) }
 {
     let mut files = files;
-    let bytes = match read_files(alloc, &mut files) {
+    let bytes = match closed_bytes(alloc, folder, &mut files) {
         Ok(bytes) => bytes,
-        Err(refusal) => return Err((files, Ending::Fault(refusal))),
+        Err(ending) => return Err((files, ending)),
     };
-    if !are_closed(alloc, &bytes) {
-        let ending = occupied_by(alloc, folder, first_open(alloc, &bytes));
-        return Err((files, ending));
-    }
     match write_words(alloc, words, &bytes.image_a, &mut files.image_a) {
         Ok(()) => {
             let cells = words.len() as u32;
@@ -120,23 +116,38 @@ pub fn make_of_words<D: Disk>(
     }
 }
 
-// How the program ends if one of the files isn't closed. They are read once more, to find the
-// first such file.
-fn occupied<D: Disk>(alloc: Global, folder: &str, files: &mut FourFiles<D>) -> Ending
-    ensures reported { IsTrue D.honest → ¬ FilesAreClosed D.content files.old
-        → ReportsUnmade D.content folder.now files.old result }
+// Reads four files, and returns their bytes. If one of the files isn't closed, the program ends so,
+// and names the first such file.
+fn closed_bytes<D: Disk>(
+    alloc: Global,
+    folder: &str,
+    files: &mut FourFiles<D>,
+) -> Result<FourFiles<Vec<u8>>, Ending>
+    ensures read { IsTrue D.honest → IfOk result (λ read. AreFilesRead D.content files.old
+        read.image_a.items read.image_b.items read.log_a.items read.log_b.items) }
+    ensures closed { IfOk result (λ read. AreClosed
+        read.image_a.items read.image_b.items read.log_a.items read.log_b.items) }
+    ensures reported { IsTrue D.honest
+        → IfErr result (ReportsUnmade D.content folder.now files.old) }
     ensures asked { FilesOnlyAsked D.called IMAGE_BYTES_MAX IMAGE_BYTES_MAX
         SEGMENT_BYTES_MAX SEGMENT_BYTES_MAX
         files.old files.new }
     ensures kept { IsTrue D.honest
         → EachFile files.old files.new (KeepsFile D.content D.may_leave) }
-    ensures other { result ≢ Ending.Fault Refusal.Device }
-    ensures fault { IsFault result }
+    ensures device { result ≡ Err (Ending.Fault Refusal.Device)
+        → SomeGrew (fault_counts D.faults files.old) (fault_counts D.faults files.new) }
+    ensures no_fault { OnOk result
+        (fault_counts D.faults files.new ≡ fault_counts D.faults files.old) }
+    ensures fault { IfErr result IsFault }
 {
-    match read_files(alloc, files) {
-        Ok(bytes) => occupied_by(alloc, folder, first_open(alloc, &bytes)),
-        Err(_) => Ending::Fault(Refusal::NotEmpty),
+    let bytes = match read_files(alloc, files) {
+        Ok(bytes) => bytes,
+        Err(refusal) => return Err(Ending::Fault(refusal)),
+    };
+    if !are_closed(alloc, &bytes) {
+        return Err(occupied_by(alloc, folder, first_open(alloc, &bytes)));
     }
+    Ok(bytes)
 }
 
 // The end that names this file of the folder.

@@ -19,7 +19,8 @@ returns-in_default-clause-enough c = λ file first within most.
 
 pub returns-in_default-2-clause-enough : goal.returns-in_default-2-clause-enough
 returns-in_default-2-clause-enough c = λ file first within most.
-    read_headless c.segment_extents.ensures.headless c.args.bytes.now file c.args.most (headless_is c.args.bytes.now c.args.extent c.in_default.is c.requires.headless) c.requires.long first within most
+    read_headless c.segment_extents.ensures.headless c.args.bytes.now file c.args.most
+    (headless_is c.args.bytes.now c.args.extent c.in_default.is c.requires.headless) c.requires.long first within most
 
 pub returns-in-Some-clause-exact : goal.returns-in-Some-clause-exact
 returns-in-Some-clause-exact c = λ base list segment.

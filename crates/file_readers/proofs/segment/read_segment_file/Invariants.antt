@@ -19,7 +19,8 @@ invariant-loop-bytes g l = record {
   kept : IsTrue g.D.Disk.honest → KeepsFile g.D.Disk.content g.D.Disk.may_leave l.fn.disk l.disk;
   faults : g.D.Disk.faults l.disk ≡ g.D.Disk.faults l.fn.disk;
   asked : OnlyAsked g.D.Disk.called (length l.bytes.items) l.fn.disk l.disk;
-  pieces : ((l.end ≤ PIECE_BYTES) × (l.known ≡ None)) ⊎ ((l.end ≤ furthest_piece (length l.bytes.items)) × ((extent : Extent) × (l.known ≡ Some extent) × (extent.ended ≡ false) × IsExtent l.bytes.items extent.groups_end extent.ticks extent.ended));
+  pieces : ((l.end ≤ PIECE_BYTES) × (l.known ≡ None)) ⊎ ((l.end ≤ furthest_piece (length l.bytes.items))
+      × ((extent : Extent) × (l.known ≡ Some extent) × (extent.ended ≡ false) × IsExtent l.bytes.items extent.groups_end extent.ticks extent.ended));
 }
 
 abbrev pub decreases-loop-bytes : goal.decreases-loop-bytes

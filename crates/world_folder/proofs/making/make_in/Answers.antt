@@ -1,13 +1,27 @@
-use Rattle.std.proofs.Common.{subst}
-use Rattle.world_start.specs.Fresh.{AreNotMade}
-use Rattle.world_folder.proofs.MakingLemmas.{occupied_unmade}
+use Rattle.std.proofs.Common.{subst, ℕ, List}
+use Rattle.disk_model.specs.FourFiles.{fault_counts}
+use Rattle.world_start.specs.Opening.{SomeGrew}
+use Rattle.world_start.proofs.Carried.{read_closed}
+use Rattle.world_folder.proofs.MakingLemmas.{device_named, zeros_made, zeros_unmade}
 use Rattle.world_folder.proofs.making.make_in.Goals as goal
 
-pub returns-in-Err-default-NotEmpty-clause-unmade : goal.returns-in-Err-default-NotEmpty-clause-unmade
-returns-in-Err-default-NotEmpty-clause-unmade g c = λ honest.
+pub returns-in-Ok-clause-made : goal.returns-in-Ok-clause-made
+returns-in-Ok-clause-made g c = λ honest.
     let file = g.D.Disk.content in
-    let leaves = g.D.Disk.may_leave in
-    let refused = c.in-Err-default-NotEmpty in
-    let reported = c.occupied-ending.ensures in
-    occupied_unmade file leaves c.args.folder.now c.args.files c.args.cells refused.files c.occupied-ending.new.files c.occupied-ending.result
-    (subst (λ r. AreNotMade file leaves c.args.files c.args.cells r refused.files) refused.field-0-1-is (refused.ensures.left honest)) (reported.reported honest) (reported.kept honest)
+    let bytes = c.in_default.field-0 in
+    let closed = read_closed file c.args.files bytes.image_a.items bytes.image_b.items bytes.log_a.items bytes.log_b.items (c.in_default.ensures.read honest) c.in_default.ensures.closed in
+    zeros_made file g.D.Disk.may_leave c.args.files c.closed_bytes.new.files c.in-Ok.files c.args.cells closed (c.in_default.ensures.kept honest) (c.in-Ok.ensures.made honest)
+
+pub returns-in-Err-fresh_files-clause-unmade : goal.returns-in-Err-fresh_files-clause-unmade
+returns-in-Err-fresh_files-clause-unmade g c = λ honest.
+    let file = g.D.Disk.content in
+    let bytes = c.in_default.field-0 in
+    let refused = c.in-Err-fresh_files in
+    let closed = read_closed file c.args.files bytes.image_a.items bytes.image_b.items bytes.log_a.items bytes.log_b.items (c.in_default.ensures.read honest) c.in_default.ensures.closed in
+    zeros_unmade file g.D.Disk.may_leave c.args.folder.now c.args.files c.closed_bytes.new.files refused.files c.args.cells refused.refusal closed (c.in_default.ensures.kept honest)
+    refused.ensures.refused (refused.ensures.left honest)
+
+pub returns-in-Err-fresh_files-clause-device : goal.returns-in-Err-fresh_files-clause-device
+returns-in-Err-fresh_files-clause-device g c = λ is.
+    let refused = c.in-Err-fresh_files in
+    subst (λ (counts : List ℕ). SomeGrew counts (fault_counts g.D.Disk.faults refused.files)) c.in_default.ensures.no_fault (refused.ensures.device (device_named refused.refusal is))
