@@ -1,5 +1,5 @@
 -- How far the groups of a segment go, and what the first bytes of a segment say of all of it.
-use Rattle.std.proofs.Common.{◌≡◌, ◌≢◌, inl, inr, ℕ, ◌+◌, ◌-◌, ◌*◌, ◌<◌, ◌≤◌, min, Bool, true, false, List, [], ◌∷◌, ◌++◌}
+use Rattle.std.proofs.Common.{◌≡◌, ◌≢◌, inl, inr, ℕ, ◌+◌, ◌-◌, ◌*◌, ◌<◌, ◌≤◌, Bool, true, false, List, [], ◌∷◌, ◌++◌}
 use Rattle.std.proofs.Common.{length, get_or, take, drop, Option, Some, None, IfSome, refl, sym, ap, subst, ◌∙◌, append_assoc, arith}
 use Rattle.std.specs.List.{flat_map, AllByRecursion}
 use Rattle.std.proofs.lemmas.Bool.Decides.{eqb_tells}
@@ -18,6 +18,7 @@ use Rattle.action_log.specs.Segment.{Tick, joined, IsTick, tick_bytes, IsGroup, 
 use Rattle.action_log.specs.Segment.{ClosedSegment, MalformedSegment, OpenSegment, IsSegment, IsClosedSegment, IsOpenSegment}
 use Rattle.action_log.specs.declared.reader.extent.Extent.{Extent}
 use Rattle.action_log.specs.Extent.{HasGroups, HasNoGroups, IsExtent, IsExtentOfFirst, ReadsAlike, AreLeading, counted_to}
+use Rattle.action_log.specs.HeldLog.{ticks_most}
 use Rattle.action_log.specs.Reading.{group_at}
 use Rattle.action_log.proofs.ValueReadingLemmas.{IsBytes-drop, IsBytes-rest, found_is}
 use Rattle.action_log.proofs.ActionReadingLemmas.{group_reads, counted_bytes}
@@ -142,10 +143,6 @@ has_body : (bytes : List ℕ) (format : Format) (base : ℕ) (groups : List (Lis
     → HasGroups bytes format base groups rest → drop FIRST_GROUP bytes ≡ flat_map group_bytes groups ++ rest
 has_body bytes format base groups rest has =
     ap (drop FIRST_GROUP) has.spelled ∙ drop_at (spelled_base format base) (flat_map group_bytes groups ++ rest) BASE_BYTES (length-number_bytes BASE_BYTES (marked_of format base))
-
--- the number of ticks that a segment may have after its base
-abbrev pub ticks_most : ℕ → ℕ
-ticks_most base = min SEGMENT_TICKS (TICK_MAX - base)
 
 within_most : (base count : ℕ) → count ≤ SEGMENT_TICKS → base + count ≤ TICK_MAX → count ≤ ticks_most base
 within_most base count few numbered = omega arith

@@ -1,18 +1,14 @@
 -- Ticks that are replayed while they are read.
-use Rattle.std.proofs.Common.{◌≡◌, ℕ, length, ◌-◌, ◌+◌, ◌<◌, List, [], ◌∷◌, ◌++◌, Option, Some, None, Result, Ok, Err, refl, sym, ap, subst, ◌∙◌}
-use Rattle.std.specs.Prelude.{IsErr, OnOk, IfErr}
+use Rattle.std.proofs.Common.{◌≡◌, ℕ, length, ◌-◌, ◌+◌, ◌<◌, ◌≤◌, List, [], ◌∷◌, ◌++◌, Option, Some, None, Result, Ok, Err, refl, sym, ap, subst, ◌∙◌}
+use Rattle.std.specs.Prelude.{IsErr}
 use Rattle.std.proofs.lemmas.Grind.{flat_map-append}
 use Rattle.std.proofs.lemmas.List.{append-nil}
 use Rattle.world_actions.specs.declared.action.Action.{Action}
-use Rattle.world_actions.specs.declared.refusal.Refusal.{Refusal}
-use Rattle.world_actions.specs.declared.refusal.Refusal.TheVariants.{BadLog}
 use Rattle.world_ticks.specs.After.{and_then, after_actions}
 use Rattle.world_ticks.proofs.AfterLemmas.{after_actions-append}
 use Rattle.file_format.specs.declared.gate.TheConstants.{OPEN_GATE}
 use Rattle.file_format.specs.declared.format.Format.{Format}
-use Rattle.action_log.specs.Segment.{Tick, joined, IsOpenSegment}
-use Rattle.action_log.specs.declared.reader.HeldTicks.{HeldTicks}
-use Rattle.action_log.specs.HeldLog.{or_none, ticks_in, AreHeld}
+use Rattle.action_log.specs.Segment.{Tick, joined}
 use Rattle.action_log.specs.Reading.{Reader, action_at, tick_at, group_at, several_at, groups_of, ticks_of}
 use Rattle.action_log.specs.TickList.{actions_of}
 use Rattle.action_log.proofs.ValueReadingLemmas.{AreRead, read_next, read_none, bind_some, found_is, no_value}
@@ -128,24 +124,13 @@ pub record IsGroupReplayed (format : Format) (many counter : ℕ) (bytes rest wo
   pub read : AreRead (tick_at format) many counter ticks bytes rest
   pub done : after_actions world (actions_of ticks) ≡ Ok words
 
--- some of the groups
-pub record AreGroupsReplayed (format : Format) (bytes rest world words : List ℕ) : Type 0 where
+-- some of the groups, with their number of ticks
+pub record AreGroupsReplayed (format : Format) (most : ℕ) (bytes rest : List ℕ) (count : ℕ) (world words : List ℕ) : Type 0 where
   pub groups : List (List Tick)
   pub so_far : IsReadTo format bytes groups rest
+  pub counted : length (joined groups) ≡ count
+  pub few : count ≤ most
   pub done : after_actions world (actions_of (joined groups)) ≡ Ok words
-
--- ---- ticks that are held
-
--- an open segment with these ticks holds them in its bytes
-pub held_open : (bytes : List ℕ) (base : ℕ) (held : HeldTicks) (list : List Tick) → ticks_of held.format held.groups.now ≡ Some list
-    → IsOpenSegment bytes base list → length list ≡ held.count → IsOpenSegment bytes base (ticks_in held) × AreHeld held
-held_open bytes base held list formed opened so_many =
-    let is : ticks_in held ≡ list = ap or_none formed in
-    (subst (λ l. IsOpenSegment bytes base l) (sym is) opened, record { formed = formed ∙ ap (λ l. Some l) (sym is); so_many = sym so_many ∙ ap length (sym is) })
-
--- ticks that the bytes have are those that are held
-pub held_same : (held : HeldTicks) (list : List Tick) → ticks_of held.format held.groups.now ≡ Some list → list ≡ ticks_in held
-held_same held list read = sym (ap or_none read)
 
 -- nothing that isn't read is a value
 pub none_at : {X : Type 0} {P : Type 0} {o : Option X} {x : X} → o ≡ None → o ≡ Some x → P
@@ -169,17 +154,3 @@ groups_stop format bytes done rest behind world words r gate so_far refused all 
         let ticks : (joined done ++ p.0) ++ joined more.0 ≡ all =
         ap (λ l. l ++ joined more.0) (sym (joined_with done p.0)) ∙ sym (flat_map-append (λ (group : List Tick). group) (done ++ p.0 ∷ []) more.0) ∙ ap joined more.1 ∙ groups.2 in
         subst (λ l. IsErr (after_actions world (actions_of l))) ticks (ticks_refused world words (joined done) p.0 (joined more.0) so_far (refused p.0 p.1 is))
-
--- ---- ticks that are held, replayed
-
-pub held_done : (held : HeldTicks) (world words : List ℕ) (r : Result (Unit {0}) Refusal)
-    → OnOk r ((ticks : List Tick) × (ticks_of held.format held.groups.now ≡ Some ticks) × (after_actions world (actions_of ticks) ≡ Ok words))
-    → OnOk r (after_actions world (actions_of (ticks_in held)) ≡ Ok words)
-held_done held world words (Ok _) done = subst (λ l. after_actions world (actions_of l) ≡ Ok words) (held_same held done.0 done.1) done.2
-held_done held world words (Err refusal) done = done
-
-pub held_refused : (held : HeldTicks) (world : List ℕ) (r : Result (Unit {0}) Refusal) → AreHeld held
-    → IfErr r (λ refusal. (refusal ≡ BadLog) × ((ticks : List Tick) → ticks_of held.format held.groups.now ≡ Some ticks → IsErr (after_actions world (actions_of ticks))))
-    → IfErr r (λ refusal. (refusal ≡ BadLog) × IsErr (after_actions world (actions_of (ticks_in held))))
-held_refused held world (Ok _) are refused = refused
-held_refused held world (Err refusal) are refused = (refused.0, refused.1 (ticks_in held) are.formed)

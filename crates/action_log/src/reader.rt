@@ -1,12 +1,15 @@
-ghost use Rattle.std.specs.Prelude.{◌≡◌, ◌⊎◌, ℕ, List, length, Some, Ok, Err, IsErr, IfSome, IfOk};
-ghost use Rattle.std.specs.Prelude.{IfErr, OnOk};
+ghost use Rattle.std.specs.Prelude.{◌≡◌, ◌⊎◌, ◌≤◌, ℕ, List, length, Some, Ok, Err, IsErr, IfSome};
+ghost use Rattle.std.specs.Prelude.{IfOk, IfErr};
 ghost use Rattle.world_actions.specs.declared.action.Action.{Action};
 ghost use Rattle.world_actions.specs.declared.refusal.Refusal.TheVariants.{BadLog};
 ghost use Rattle.world_ticks.specs.After.{after_actions};
-ghost use Rattle.action_log.specs.Segment.{MalformedSegment, IsSegment, IsOpenSegment, HasTicks};
+ghost use Rattle.action_log.specs.Segment.{Tick, MalformedSegment, OpenSegment, IsSegment};
+ghost use Rattle.action_log.specs.Segment.{IsOpenSegment, HasTicks};
 ghost use Rattle.action_log.specs.Reading.{IsJudged};
 ghost use Rattle.action_log.specs.LogState.{segment_in};
-ghost use Rattle.action_log.specs.HeldLog.{AreHeld, IsHeld, segment_held, ticks_in};
+ghost use Rattle.world_ticks.specs.declared.tick.TheConstants.{TICK_MAX};
+ghost use Rattle.action_log.specs.HeldLog.{IsHeld, IsJudgedLog, HasOpened, segment_held};
+ghost use Rattle.action_log.specs.HeldLog.{segment_of_held, ticks_most};
 ghost use Rattle.action_log.specs.TickList.{actions_of};
 
 mod extent;
@@ -32,58 +35,110 @@ pub enum LogState {
     Open { base: u64, ticks: TickList },
 }
 
-/// A segment that is judged. The ticks of an open one are still in its bytes.
+/// A segment by its header. The ticks of an open one are still in its bytes, and aren't judged.
 #[derive(Clone, Copy)]
 pub enum HeldLog<'a> {
     /// It is closed, and holds nothing.
     Closed,
-    /// It is open. The first of its ticks is the one after `base`.
-    Open { base: u64, ticks: HeldTicks<'a> },
+    /// It is open, or malformed after its header.
+    Open(HeldTicks<'a>),
 }
 
-/// The ticks of a segment in its bytes: so many, in the groups of a format.
+/// The ticks of a segment in its bytes: the groups of a format. The first tick is the one after
+/// `base`.
 #[derive(Clone, Copy)]
 pub struct HeldTicks<'a> {
-    pub count: usize,
+    pub base: u64,
     pub format: Format,
     pub groups: &'a [u8],
 }
 
 impl HeldTicks<'_> {
-    /// Replays the ticks on the cells, and makes no list of them. If an action is refused, it stops
-    /// and returns `BadLog`.
-    pub fn replay<C: Cells>(&self, c: &mut C) -> Result<(), Refusal>
-        requires { AreHeld self.now }
-        ensures done { OnOk result (after_actions (C.words c.old) (actions_of (ticks_in self.now))
-            ≡ Ok (C.words c.new)) }
-        ensures refused { IfErr result (λ refusal. (refusal ≡ BadLog)
-            × IsErr (after_actions (C.words c.old) (actions_of (ticks_in self.now)))) }
+    // The greatest number of ticks that a segment may have after this base.
+    fn most(&self) -> usize
+        requires { self.now.base ≤ TICK_MAX }
+        ensures { result ≡ ticks_most self.now.base }
     {
-        replay_groups(self.format, self.groups, c)
+        SEGMENT_TICKS.min((TICK_MAX - self.base) as usize)
     }
+
+    /// Counts the ticks. It refuses with `BadLog` exactly if the segment is malformed. It takes no
+    /// memory.
+    pub fn count(&self) -> Result<usize, Refusal>
+        requires { self.now.base ≤ TICK_MAX }
+        ensures counted { IfOk result (λ count. HasOpened self.now count) }
+        ensures refused { IfErr result (λ refusal. (refusal ≡ BadLog)
+            × (segment_of_held self.now ≡ MalformedSegment)) }
+    {
+        match count_all(self.format, self.groups, self.most()) {
+            Some(counts) => Ok(counts.ticks),
+            None => Err(Refusal::BadLog),
+        }
+    }
+
+    /// Replays the ticks on the cells while it judges them, and returns how many they are. It makes
+    /// no list of them. If the segment is malformed, or an action is refused, it stops and returns
+    /// `BadLog`.
+    pub fn replay<C: Cells>(&self, c: &mut C) -> Result<usize, Refusal>
+        requires { self.now.base ≤ TICK_MAX }
+        ensures done { IfOk result (λ count. (ticks : List Tick)
+            × (segment_of_held self.now ≡ OpenSegment self.now.base ticks)
+            × (length ticks ≡ count)
+            × (after_actions (C.words c.old) (actions_of ticks) ≡ Ok (C.words c.new))) }
+        ensures refused { IfErr result (λ refusal. (refusal ≡ BadLog)
+            × ((ticks : List Tick) → segment_of_held self.now ≡ OpenSegment self.now.base ticks
+            → IsErr (after_actions (C.words c.old) (actions_of ticks)))) }
+    {
+        replay_groups(self.format, self.groups, self.most(), c)
+    }
+}
+
+/// Returns the segment of either format in these bytes, by its header. It refuses with `BadLog` if
+/// the header is malformed.
+pub fn held_log(bytes: &[u8]) -> Result<HeldLog<'_>, Refusal>
+    ensures reads { IfOk result (λ held. IsSegment bytes.now (segment_held held)
+        × IsHeld bytes.now held) }
+    ensures refuses { IfErr result (λ refusal. (refusal ≡ BadLog)
+        × IsSegment bytes.now MalformedSegment) }
+{
+    if bytes.len() < HEADER_BYTES || bytes[0] != OPEN_GATE {
+        return Ok(HeldLog::Closed);
+    }
+    let Some((format, base)) = marked_at(bytes) else {
+        return Err(Refusal::BadLog);
+    };
+    if base > TICK_MAX {
+        return Err(Refusal::BadLog);
+    }
+    Ok(HeldLog::Open(HeldTicks {
+        base,
+        format,
+        groups: &bytes[FIRST_GROUP..],
+    }))
+}
+
+/// The reading of a segment, without its ticks.
+#[derive(Clone, Copy)]
+pub enum JudgedLog {
+    /// It is closed, and holds nothing.
+    Closed,
+    /// It is open, with so many ticks. The first one is the one after `base`.
+    Open { base: u64, count: usize },
 }
 
 /// Judges a segment of either format, and counts its ticks. It refuses with `BadLog` exactly if the
 /// segment is malformed. It takes no memory.
-pub fn judge_log(bytes: &[u8]) -> Result<HeldLog<'_>, Refusal>
-    ensures reads { IfOk result (λ held. IsSegment bytes.now (segment_held held) × IsHeld held) }
+pub fn judge_log(bytes: &[u8]) -> Result<JudgedLog, Refusal>
+    ensures reads { IfOk result (IsJudgedLog bytes.now) }
     ensures refuses { IfErr result (λ refusal. (refusal ≡ BadLog)
         × IsSegment bytes.now MalformedSegment) }
 {
     match judge(bytes) {
-        Judged::Closed => Ok(HeldLog::Closed),
+        Judged::Closed => Ok(JudgedLog::Closed),
         Judged::Malformed => Err(Refusal::BadLog),
-        Judged::Open {
-            format,
+        Judged::Open { base, counts, .. } => Ok(JudgedLog::Open {
             base,
-            counts,
-        } => Ok(HeldLog::Open {
-            base,
-            ticks: HeldTicks {
-                count: counts.ticks,
-                format,
-                groups: &bytes[FIRST_GROUP..],
-            },
+            count: counts.ticks,
         }),
     }
 }
@@ -148,20 +203,15 @@ enum Judged {
 fn judge(bytes: &[u8]) -> Judged
     ensures { IsJudged bytes.now result }
 {
-    if bytes.len() < HEADER_BYTES || bytes[0] != OPEN_GATE {
-        return Judged::Closed;
-    }
-    let Some((format, base)) = marked_at(bytes) else {
-        return Judged::Malformed;
+    let ticks = match held_log(bytes) {
+        Ok(HeldLog::Open(ticks)) => ticks,
+        Ok(HeldLog::Closed) => return Judged::Closed,
+        Err(_) => return Judged::Malformed,
     };
-    if base > TICK_MAX {
-        return Judged::Malformed;
-    }
-    let most = SEGMENT_TICKS.min((TICK_MAX - base) as usize);
-    match count_all(format, &bytes[FIRST_GROUP..], most) {
+    match count_all(ticks.format, ticks.groups, ticks.most()) {
         Some(counts) => Judged::Open {
-            format,
-            base,
+            format: ticks.format,
+            base: ticks.base,
             counts,
         },
         None => Judged::Malformed,

@@ -5,7 +5,7 @@ ghost use Rattle.world_reports.specs.FileReports.{IsImageReport, IsLogReport, fo
 ghost use Rattle.world_reports.specs.Texts.{image_reported_text, log_reported_text};
 
 use crate::counted::Counted;
-use action_log::{HeldLog, count_groups, judge_log};
+use action_log::{JudgedLog, count_groups, judge_log};
 use file_format::{Format, format_of};
 use image_files::{ImageState, read_image};
 use std::alloc::Global;
@@ -62,14 +62,14 @@ pub fn report_log(bytes: &[u8]) -> LogReport
     ensures { IsLogReport bytes.now result }
 {
     match judge_log(bytes) {
-        Ok(HeldLog::Closed) => LogReport::Closed,
-        Ok(HeldLog::Open { base, ticks }) => {
+        Ok(JudgedLog::Closed) => LogReport::Closed,
+        Ok(JudgedLog::Open { base, count }) => {
             let format = format_of(bytes).unwrap();
             LogReport::Open {
                 format,
                 base,
                 groups: count_groups(bytes).unwrap(),
-                ticks: ticks.count,
+                ticks: count,
             }
         }
         Err(_) => LogReport::Damaged,

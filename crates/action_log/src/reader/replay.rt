@@ -1,7 +1,8 @@
 //! Ticks that are replayed from the bytes of their segment, without a list of them.
-ghost use Rattle.std.specs.Prelude.{◌≡◌, List, ℕ, Some, Ok, Err, IsErr, OnOk, IfOk, IfErr};
+ghost use Rattle.std.specs.Prelude.{◌≡◌, ◌≤◌, List, ℕ, length, Some, Ok, Err, IsErr, IfOk, IfErr};
 ghost use Rattle.world_actions.specs.declared.refusal.Refusal.TheVariants.{BadLog};
 ghost use Rattle.world_ticks.specs.After.{after_actions};
+ghost use Rattle.action_log.specs.declared.format.TheConstants.{SEGMENT_TICKS};
 ghost use Rattle.action_log.specs.Segment.{Tick};
 ghost use Rattle.action_log.specs.Reading.{tick_at, group_at, ticks_of};
 ghost use Rattle.action_log.specs.TickList.{actions_of};
@@ -37,14 +38,15 @@ fn replay_tick<'a, C: Cells>(
     Ok(rest)
 }
 
-// Replays the ticks of a group after its gate, and returns the bytes after it.
+// Replays the ticks of a group after its gate, and returns how many they are, and the bytes after
+// it.
 fn replay_group<'a, C: Cells>(
     format: Format,
     bytes: &'a [u8],
     c: &mut C,
-) -> Result<&'a [u8], Refusal>
-    ensures done { IfOk result (λ rest. (ticks : List Tick)
-        × (group_at format bytes.now ≡ Some (ticks, rest.now))
+) -> Result<(usize, &'a [u8]), Refusal>
+    ensures done { IfOk result (λ found. (ticks : List Tick)
+        × (group_at format bytes.now ≡ Some (ticks, found.1.now)) × (length ticks ≡ found.0)
         × (after_actions (C.words c.old) (actions_of ticks) ≡ Ok (C.words c.new))) }
     ensures refused { IfErr result (λ refusal. (refusal ≡ BadLog)
         × ((ticks : List Tick) (rest : List ℕ) → group_at format bytes.now ≡ Some (ticks, rest)
@@ -56,24 +58,34 @@ fn replay_group<'a, C: Cells>(
     for _ in 0..count {
         rest = replay_tick(format, rest, c)?;
     }
-    Ok(rest)
+    Ok((count, rest))
 }
 
-/// Replays the ticks of all groups. It takes no memory.
+/// Replays the ticks of all groups, and returns how many they are. At most `most` ticks are
+/// allowed. It takes no memory.
 pub(super) fn replay_groups<C: Cells>(
     format: Format,
     bytes: &[u8],
+    most: usize,
     c: &mut C,
-) -> Result<(), Refusal>
-    ensures done { OnOk result ((ticks : List Tick) × (ticks_of format bytes.now ≡ Some ticks)
+) -> Result<usize, Refusal>
+    requires { most ≤ SEGMENT_TICKS }
+    ensures done { IfOk result (λ count. (ticks : List Tick)
+        × (ticks_of format bytes.now ≡ Some ticks) × (length ticks ≡ count) × (count ≤ most)
         × (after_actions (C.words c.old) (actions_of ticks) ≡ Ok (C.words c.new))) }
     ensures refused { IfErr result (λ refusal. (refusal ≡ BadLog)
-        × ((ticks : List Tick) → ticks_of format bytes.now ≡ Some ticks
+        × ((ticks : List Tick) → ticks_of format bytes.now ≡ Some ticks → length ticks ≤ most
         → IsErr (after_actions (C.words c.old) (actions_of ticks)))) }
 {
+    let mut ticks = 0;
     let mut rest = bytes;
     while let Some(group) = behind_gate(rest) {
-        rest = replay_group(format, group, c)?;
+        let (more, next) = replay_group(format, group, c)?;
+        if more > most - ticks {
+            return Err(Refusal::BadLog);
+        }
+        ticks += more;
+        rest = next;
     }
-    Ok(())
+    Ok(ticks)
 }

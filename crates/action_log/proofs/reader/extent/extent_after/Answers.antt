@@ -1,8 +1,9 @@
 use Rattle.std.proofs.Common.{ℕ, ◌+◌, ◌-◌, List, ◌++◌, drop, sym, ap, subst, arith}
 use mir.Facts.{Fits-lt-pow}
 use Rattle.action_log.specs.Extent.{AreLeading}
+use Rattle.action_log.specs.HeldLog.{ticks_most}
 use Rattle.action_log.proofs.ValueReadingLemmas.{from_place}
-use Rattle.action_log.proofs.ExtentLemmas.{ticks_most, none_unmarked, none_beyond, extent_by, CountsOn, counts_to, leads_on}
+use Rattle.action_log.proofs.ExtentLemmas.{none_unmarked, none_beyond, extent_by, CountsOn, counts_to, leads_on}
 use Rattle.action_log.proofs.reader.extent.extent_after.Goals as goal
 
 pub returns-in_err-format-clause-none : goal.returns-in_err-format-clause-none

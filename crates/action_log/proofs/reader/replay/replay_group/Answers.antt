@@ -32,4 +32,9 @@ loop-preserved g c =
 
 pub returns-clause-done : goal.returns-clause-done
 returns-clause-done g c =
-    (c.loop.invariant.ticks, c.in-Some.ensures.some c.args.format ∙ read_all c.loop.invariant.read (omega (arith, c.loop-test.false)), c.loop.invariant.done)
+    let so_far = c.loop.invariant in (
+      so_far.ticks,
+      c.in-Some.ensures.some c.args.format ∙ read_all so_far.read (omega (arith, c.loop-test.false)),
+      omega (arith, so_far.read.so_many, so_far.read.within, c.loop-test.false),
+      so_far.done,
+    )
