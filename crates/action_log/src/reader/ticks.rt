@@ -149,6 +149,9 @@ pub(super) fn tick_count(bytes: &[u8]) -> Option<(usize, &[u8])>
     Some((count, rest))
 }
 
+// The number of bytes of the fields of a `SET`: a cell and a value.
+const SET_BYTES: usize = 4 + 8;
+
 // Returns the number of bytes of the fields of an action of a kind, if there is such a kind.
 #[tactic(auto, using(crate::proofs::WidthLemmas::set_width, crate::proofs::WidthLemmas::add_width, crate::proofs::WidthLemmas::transfer_width, crate::proofs::WidthLemmas::swap_width, crate::proofs::WidthLemmas::cap_width))]
 fn field_bytes(kind: u8) -> Option<usize>
@@ -156,7 +159,7 @@ fn field_bytes(kind: u8) -> Option<usize>
     ensures none { IfNone result ((fields : List ℕ) → fields_at kind fields ≡ None) }
 {
     match kind {
-        SET => Some(4 + 8),
+        SET => Some(SET_BYTES),
         ADD => Some(4 + 8),
         TRANSFER => Some(4 + 4 + 8),
         SWAP => Some(4 + 4),
@@ -165,21 +168,8 @@ fn field_bytes(kind: u8) -> Option<usize>
     }
 }
 
-// Returns the bytes after an action of a format, if they begin with one. It reads only the kind.
-fn skip_action(format: Format, bytes: &[u8]) -> Option<&[u8]>
-    ensures some { IfSome result (λ rest. (action : Action)
-        × (action_at format bytes.now ≡ Some (action, rest.now))) }
-    ensures none { IfNone result (action_at format bytes.now ≡ None) }
-{
-    let (kind, fields) = read_kind(format, bytes)?;
-    let width = field_bytes(kind)?;
-    if fields.len() < width {
-        return None;
-    }
-    Some(&fields[width..])
-}
-
-// Returns the number of a tick's actions, and the bytes after the tick, if there is one.
+// Returns the number of a tick's actions, and the bytes after the tick, if there is one. Of an action
+// it reads only the kind. An action of the same kind as the last one is as long.
 fn count_tick(format: Format, bytes: &[u8]) -> Option<(usize, &[u8])>
     ensures some { IfSome result (λ found. (tick : List Action)
         × (tick_at format bytes.now ≡ Some (tick, found.1.now)) × (length tick ≡ found.0)) }
@@ -187,8 +177,18 @@ fn count_tick(format: Format, bytes: &[u8]) -> Option<(usize, &[u8])>
     ensures none { IfNone result (tick_at format bytes.now ≡ None) }
 {
     let (count, mut rest) = action_count(bytes)?;
+    let mut last = SET;
+    let mut width = SET_BYTES;
     for _ in 0..count {
-        rest = skip_action(format, rest)?;
+        let (kind, fields) = read_kind(format, rest)?;
+        if kind != last {
+            width = field_bytes(kind)?;
+        }
+        if fields.len() < width {
+            return None;
+        }
+        last = kind;
+        rest = &fields[width..];
     }
     Some((count, rest))
 }
