@@ -168,8 +168,8 @@ fn field_bytes(kind: u8) -> Option<usize>
     }
 }
 
-// Returns the number of a tick's actions, and the bytes after the tick, if there is one. Of an action
-// it reads only the kind. An action of the same kind as the last one is as long.
+// Returns the number of a tick's actions, and the bytes after the tick, if there is one. It reads
+// only the kinds of the actions. One of the same kind as the last one is as long.
 fn count_tick(format: Format, bytes: &[u8]) -> Option<(usize, &[u8])>
     ensures some { IfSome result (λ found. (tick : List Action)
         × (tick_at format bytes.now ≡ Some (tick, found.1.now)) × (length tick ≡ found.0)) }
