@@ -85,25 +85,32 @@ def recover(worldd: pathlib.Path, folder: pathlib.Path) -> tuple[float, float]:
     return seconds, usage.ru_maxrss * 1024 / 1e6
 
 
+def measure(worldd: pathlib.Path, folder: pathlib.Path, runs: int) -> str:
+    """What some runs over the files of a folder took."""
+    reads, recoveries = [], []
+    for _ in range(runs):
+        reads.append(read_once(folder / "log.a"))
+        recoveries.append(recover(worldd, folder))
+    read, recovered = statistics.median(reads), statistics.median(seconds for seconds, _ in recoveries)
+    most = max(memory for _, memory in recoveries)
+    length = os.path.getsize(folder / "log.a")
+    return (
+        f"{length:,} bytes read in {read:.3f} s, recovered in {recovered:.3f} s, "
+        f"{recovered / read:.2f} times as long, with {most:.0f} MB"
+    )
+
+
 def main() -> None:
     parser = argparse.ArgumentParser(description=__doc__.splitlines()[0])
     parser.add_argument("worldd", type=pathlib.Path, help="the built program")
     parser.add_argument("--runs", type=int, default=5, help="how many runs (5)")
     parser.add_argument("--dir", help="where the files are made (the system's folder for temporary files)")
     given = parser.parse_args()
-    worldd = given.worldd.absolute()
     for order, actions_of in (("to the next cell", in_order), ("between random cells", between_any)):
         with tempfile.TemporaryDirectory(dir=given.dir) as name:
             folder = pathlib.Path(name)
             fill(folder, actions_of)
-            reads, recoveries = [], []
-            for _ in range(given.runs):
-                reads.append(read_once(folder / "log.a"))
-                recoveries.append(recover(worldd, folder))
-            read, taken = statistics.median(reads), statistics.median(seconds for seconds, _ in recoveries)
-            most = max(memory for _, memory in recoveries)
-            print(f"transfers {order}: {os.path.getsize(folder / 'log.a'):,} bytes read in {read:.3f} s, recovered in {taken:.3f} s, "
-                  f"which is {taken / read:.2f} of that, with {most:.0f} MB")
+            print(f"transfers {order}: {measure(given.worldd.absolute(), folder, given.runs)}")
 
 
 if __name__ == "__main__":
