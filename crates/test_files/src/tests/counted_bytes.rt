@@ -89,6 +89,29 @@ fn a_segment_is_read_to_its_last_gate(rt: HostRuntime) -> Result<(), Fail> {
     Ok(())
 }
 
+// True if such a segment is read by this many calls of its file, or more.
+fn is_called(alloc: Global, behind: usize, call: u64) -> Result<bool, Refusal>
+    requires { 1 ≤ call }
+{
+    let mut disk = disk(alloc, &segment(alloc, 1, 1, behind)?)?;
+    disk.arm(call);
+    Ok(read_segment_file(alloc, &mut disk).is_err())
+}
+
+#[test]
+fn a_segment_is_read_in_pieces(rt: HostRuntime) -> Result<(), Fail> {
+    for (behind, calls) in [
+        (0, 2),
+        (300_000, 5), // up to 65,536, 131,072, 262,144, 300,077 bytes
+        (5_000_000, 10), // each as long as all before it, up to 1 MiB
+    ] {
+        let last = is_called(rt.alloc(), behind, calls)?;
+        let further = is_called(rt.alloc(), behind, calls + 1)?;
+        assert_eq!(rt; (last, further), (true, false), "{behind} bytes behind");
+    }
+    Ok(())
+}
+
 // How far the groups of such a segment go.
 fn extent(
     alloc: Global,
