@@ -126,7 +126,7 @@ meets slots id me stored loaded is s k wide at small =
       keeps,
       tt,
       kept_at k k.out_at k.in_at (still s k) (set_knows (Knows k.stored k.out_at k.loaded k.in_at) s.views id me.0 (k.each_seat id me.0 at) (λ j v ne e. k.each_seat j v e)),
-      (refl, subst (λ (v : SignalView). AreStored (stored_of v) (loaded_of v)) (sym is) are),
+      (refl, subst (λ (v : SignalView). v ≡ Both (stored_of v) (loaded_of v)) (sym is) refl, subst (λ (v : SignalView). AreStored (stored_of v) (loaded_of v)) (sym is) are),
     )
 
 -- ---- splits and joins

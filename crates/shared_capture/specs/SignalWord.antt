@@ -8,7 +8,8 @@ use Rattle.atomic_table.specs.declared.shared.Seat.{Seat}
 use Rattle.shared_capture.specs.declared.signal.SignalView.{SignalView}
 use Rattle.shared_capture.specs.declared.signal.SignalView.TheVariants.{Spent, Out, In, Both}
 
--- a seat as contracts see it: its pair, and the numbers that it stored or loaded
+-- A seat as contracts see it: its pair, and the numbers that it stored or loaded. Each store of the
+-- one and each load of the other adds a number.
 pub record SignalState : Type 0 where
   pub pair : TableId
   pub ticks : List ℕ
@@ -68,9 +69,11 @@ stored_next st m tick m' = m' ≡ (Out (stored_of m.0 ++ tick ∷ []), m.1)
 abbrev pub loaded_next : Step (Unit {0}) → Sitting → ℕ → Sitting → Type 0
 loaded_next st m found m' = m' ≡ (In (loaded_of m.0 ++ found ∷ []), m.1)
 
--- both meet
+-- Both meet. Only a seat that knows both can make this load, so the one that stores makes none.
 abbrev pub met : Step (Unit {0}) → Sitting → ℕ → Sitting → Type 0
-met st m found m' = (m' ≡ m) × AreStored (stored_of m.0) (loaded_of m.0)
+met st m found m' =
+    (m' ≡ m) × (m.0 ≡ Both (stored_of m.0) (loaded_of m.0))
+    × AreStored (stored_of m.0) (loaded_of m.0)
 
 abbrev pub out_part : SignalView → SignalView
 out_part view = Out (stored_of view)

@@ -31,4 +31,9 @@ pub use joined::Joined;
 pub use method::{Kind, Method, Pong, Zig};
 pub use pair::{meet, ping_pong_pair, zigzag_pair};
 pub use signal::{SignalIn, SignalOut, meet_signal, signal_pair};
+// A cover is the signal of the ticks of open images.
+pub use signal::{
+    SignalIn as CoverIn, SignalOut as CoverOut, meet_signal as meet_cover,
+    signal_pair as cover_pair,
+};
 pub use view::{Round, Snapshot};

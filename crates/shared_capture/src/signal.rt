@@ -1,7 +1,8 @@
 //! A signal from one thread to another: numbers in one word, each greater than those before it. The
 //! checkpointer sends the ticks of open images to the log writer. The log writer sends the mutator
 //! a 1 once the log is down.
-ghost use Rattle.std.specs.Prelude.{◌≡◌, ◌<◌, ◌≤◌, ◌++◌, ◌∷◌, [], ℕ, Some, slice_get, IfOk, IfErr};
+ghost use Rattle.std.specs.Prelude.{◌≡◌, ◌+◌, ◌<◌, ◌≤◌, ◌++◌, ◌∷◌, [], ℕ, Some, length, slice_get};
+ghost use Rattle.std.specs.Prelude.{IfOk, IfErr};
 ghost use Rattle.std.specs.Arc.{arc_value};
 ghost use Rattle.shared_capture.specs.declared.signal.SignalView.TheVariants.{Spent, Both};
 ghost use Rattle.shared_capture.specs.SignalWord.{SignalState, IsOut, IsIn, IsBoth, AreStored};
@@ -144,21 +145,23 @@ fn seats(alloc: Global) -> Result<(SignalOut, SignalIn), AllocError>
 }
 
 impl SignalOut {
-    /// Stores a number, which is greater than those before it.
+    /// Stores a number, which is greater than those before it. It makes one store and no load.
     pub fn publish(&mut self, tick: u64)
         requires some { 1 ≤ tick }
         requires newer { (i earlier : ℕ)
             → slice_get self.old.ticks i ≡ Some earlier → earlier < tick }
-        ensures { self.new ≡ record self.old { ticks = self.old.ticks ++ tick ∷ [] } }
+        ensures stored { self.new ≡ record self.old { ticks = self.old.ticks ++ tick ∷ [] } }
+        ensures stores { length self.new.ticks ≡ length self.old.ticks + 1 }
     {
         self.table.shared.store::<Publish>(&mut self.seat, 0, tick);
     }
 }
 
 impl SignalIn {
-    /// Returns the number that was stored last, or 0 if none was.
+    /// Returns the number that was stored last, or 0 if none was. It makes one load.
     pub fn latest(&mut self) -> u64
-        ensures { self.new ≡ record self.old { ticks = self.old.ticks ++ result ∷ [] } }
+        ensures loaded { self.new ≡ record self.old { ticks = self.old.ticks ++ result ∷ [] } }
+        ensures loads { length self.new.ticks ≡ length self.old.ticks + 1 }
     {
         self.table.shared.load::<Latest>(&mut self.seat, 0)
     }

@@ -16,7 +16,7 @@ post_all-requires g c = record {
       subst (λ (b : Bool). Writes g.D.Disk.content g.D.Disk.may_leave c.advance.new.log c.advance.new.queue.items
       c.latest-tick.new.self.ticks c.in-Acked.receipt b (content_in first) (records_of c.self.inside.from.items)) up
       (reported_on g.D.Disk.content g.D.Disk.may_leave g.D.Disk.honest _ c.self.invariant c.latest-tick.new.self
-      c.latest-tick.result c.advance.new.log c.advance.new.queue c.advance.result c.in-Acked.receipt (inr c.in-Acked.is) c.latest-tick.ensures c.advance.ensures.advances honest first stands);
+      c.latest-tick.result c.advance.new.log c.advance.new.queue c.advance.result c.in-Acked.receipt (inr c.in-Acked.is) c.latest-tick.ensures.loaded c.advance.ensures.advances honest first stands);
 }
 
 pub invariant_of-self-in-Down : goal.invariant_of-self-in-Down
@@ -24,7 +24,7 @@ invariant_of-self-in-Down g c =
     let e = c.advance.ensures in
     advanced g.D.Disk.content g.D.Disk.may_leave g.D.Disk.honest _ c.self.invariant c.latest-tick.new.self c.latest-tick.result
     c.advance.new.log c.advance.new.queue c.self.inside.answers c.advance.result c.self.inside.acked
-    (e.started c.self.invariant.started) e.fits e.follows e.end e.ring refl refl (λ same. same) c.self.invariant.durable (inl refl) c.latest-tick.ensures e.advances
+    (e.started c.self.invariant.started) e.fits e.follows e.end e.ring refl refl (λ same. same) c.self.invariant.durable (inl refl) c.latest-tick.ensures.loaded e.advances
 
 pub invariant_of-self-in-Acked : goal.invariant_of-self-in-Acked
 invariant_of-self-in-Acked g c =
@@ -42,34 +42,34 @@ invariant_of-self-in-Acked g c =
     ] in
     advanced g.D.Disk.content g.D.Disk.may_leave g.D.Disk.honest _ c.self.invariant c.latest-tick.new.self c.latest-tick.result
     c.advance.new.log c.advance.new.queue c.post_all.new.self c.advance.result c.max-self-inside.result
-    (e.started c.self.invariant.started) e.fits e.follows e.end e.ring posts.room count posts.posted (posts.most c.max-self-inside.result least greatest) which c.latest-tick.ensures e.advances
+    (e.started c.self.invariant.started) e.fits e.follows e.end e.ring posts.room count posts.posted (posts.most c.max-self-inside.result least greatest) which c.latest-tick.ensures.loaded e.advances
 
 pub invariant_of-self-in-Idle : goal.invariant_of-self-in-Idle
 invariant_of-self-in-Idle g c =
     let e = c.advance.ensures in
     advanced g.D.Disk.content g.D.Disk.may_leave g.D.Disk.honest _ c.self.invariant c.latest-tick.new.self c.latest-tick.result
     c.advance.new.log c.advance.new.queue c.self.inside.answers c.advance.result c.self.inside.acked
-    (e.started c.self.invariant.started) e.fits e.follows e.end e.ring refl refl (λ same. same) c.self.invariant.durable (inl refl) c.latest-tick.ensures e.advances
+    (e.started c.self.invariant.started) e.fits e.follows e.end e.ring refl refl (λ same. same) c.self.invariant.durable (inl refl) c.latest-tick.ensures.loaded e.advances
 
 pub returns-in-Down-clause-loads : goal.returns-in-Down-clause-loads
 returns-in-Down-clause-loads g c =
     loads_one c.args.self.now.covers c.self.inside.covers _ c.latest-tick.result (ap (λ (w : Logging g.row.D.Denot). w.covers) c.self.view_is)
-    (ap (λ (w : Logging g.row.D.Denot). w.covers) c.fall-in-Down.ensures ∙ c.latest-tick.ensures)
+    (ap (λ (w : Logging g.row.D.Denot). w.covers) c.fall-in-Down.ensures ∙ c.latest-tick.ensures.loaded)
 
 pub returns-in-Acked-clause-loads : goal.returns-in-Acked-clause-loads
 returns-in-Acked-clause-loads g c =
-    loads_one c.args.self.now.covers c.self.inside.covers c.latest-tick.new.self c.latest-tick.result (ap (λ (w : Logging g.row.D.Denot). w.covers) c.self.view_is) c.latest-tick.ensures
+    loads_one c.args.self.now.covers c.self.inside.covers c.latest-tick.new.self c.latest-tick.result (ap (λ (w : Logging g.row.D.Denot). w.covers) c.self.view_is) c.latest-tick.ensures.loaded
 
 pub returns-in-Idle-clause-loads : goal.returns-in-Idle-clause-loads
 returns-in-Idle-clause-loads g c =
-    loads_one c.args.self.now.covers c.self.inside.covers c.latest-tick.new.self c.latest-tick.result (ap (λ (w : Logging g.row.D.Denot). w.covers) c.self.view_is) c.latest-tick.ensures
+    loads_one c.args.self.now.covers c.self.inside.covers c.latest-tick.new.self c.latest-tick.result (ap (λ (w : Logging g.row.D.Denot). w.covers) c.self.view_is) c.latest-tick.ensures.loaded
 
 pub returns-in-Acked-clause-posts : goal.returns-in-Acked-clause-posts
 returns-in-Acked-clause-posts g c = λ _.
     let e = c.advance.ensures in
     let up : c.advance.result ≢ answer.Down = λ down. (let is = c.in-Acked.is in cc) in
-    acknowledged c.args.self.now _ c.self.view_is c.latest-tick.new.self c.latest-tick.result c.advance.new.log c.advance.new.queue c.post_all.new.self c.max-self-inside.result c.latest-tick.ensures
-    (Some c.in-Acked.receipt) (sym (ap receipt_in c.in-Acked.is) ∙ e.receipt up)
+    acknowledged c.args.self.now _ c.self.view_is c.latest-tick.new.self c.latest-tick.result c.advance.new.log c.advance.new.queue c.post_all.new.self c.max-self-inside.result
+    c.latest-tick.ensures.loaded (Some c.in-Acked.receipt) (sym (ap receipt_in c.in-Acked.is) ∙ e.receipt up)
     (c.max-self-inside.ensures ∙ ap (λ (k : ℕ). max c.self.inside.acked k) c.tick.ensures, c.post_all.ensures.posts, c.post_all.ensures.others)
 
 pub returns-in-Idle-clause-posts : goal.returns-in-Idle-clause-posts
@@ -77,5 +77,5 @@ returns-in-Idle-clause-posts g c = λ _.
     let e = c.advance.ensures in
     let up : c.advance.result ≢ answer.Down = λ down. elim c.in-Idle.is [ inl is ↦ cc | inr is ↦ cc ] in
     let none : receipt_in c.advance.result ≡ None = elim c.in-Idle.is [ inl is ↦ ap receipt_in is | inr is ↦ ap receipt_in is ] in
-    acknowledged c.args.self.now _ c.self.view_is c.latest-tick.new.self c.latest-tick.result c.advance.new.log c.advance.new.queue c.self.inside.answers c.self.inside.acked c.latest-tick.ensures
-    None (sym none ∙ e.receipt up) (refl, refl)
+    acknowledged c.args.self.now _ c.self.view_is c.latest-tick.new.self c.latest-tick.result c.advance.new.log c.advance.new.queue c.self.inside.answers c.self.inside.acked
+    c.latest-tick.ensures.loaded None (sym none ∙ e.receipt up) (refl, refl)
