@@ -14,6 +14,7 @@ CLAUSE = re.compile(r"\s*(?:requires|ensures|decreases) (\w+) \{")
 FIELD = re.compile(r"\s+(?:pub |pub\(\w+\) )?(?:ghost )?(\w+)\s*(?:[:,({=]|$)")
 DEFINITION = re.compile(r"\s*(?:(?:unfoldable|opaque|abbrev|pub|record|data) )+([^\s:({]+)|([^\s:({]+) :")
 IMPORT = re.compile(r"\s*(?:ghost |pub )?use .*")
+EXPORT = re.compile(r"^pub use [\w:]+::(?:\{([^}]*)\}|(\w+(?: as \w+)?));", re.MULTILINE)
 OWNERS = "trait", "struct", "enum"
 
 
@@ -49,7 +50,12 @@ class Names:
         self.all.add(path.stem)
         owners: tuple[str, ...] = ()
         function: tuple[str, ...] = ()
-        for line in path.read_text().splitlines():
+        text = path.read_text()
+        # An item that is handed on has the last name: the one after `as`, if there is one.
+        exports = [item.split() for group, one in EXPORT.findall(text) for item in (group or one).split(",")]
+        self.members[crate] |= {words[-1] for words in exports if words}
+        self.all |= {words[-1] for words in exports if words}
+        for line in text.splitlines():
             item, block = ITEM.match(line), IMPL.match(line)
             if IMPORT.match(line):
                 self.all |= set(re.findall(r"\w+", line))

@@ -22,4 +22,6 @@ mod world;
 
 pub use created::create_and_open;
 pub use laws::served_worlds_are_safe;
-pub use world::SerialWorld;
+// A world that is served, whoever its clients are.
+pub use world::{SerialWorld, SerialWorld as Served};
+pub use world_start::fresh_files;

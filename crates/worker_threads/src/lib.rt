@@ -12,7 +12,8 @@ mod work;
 mod world_opening;
 
 pub use cuts::stop_after;
-pub use meeting::meet_stopped;
-pub use threads::{NotStarted, StoppedWorkers, Workers, start, stop};
+// Stopped workers are the ends of a world's threads.
+pub use meeting::{meet_stopped, meet_stopped as ends_meet};
+pub use threads::{NotStarted, StoppedWorkers, StoppedWorkers as Ends, Workers, start, stop};
 pub use watch::{TickWatch, Watch};
 pub use world_opening::{Seats, start_world};

@@ -25,7 +25,7 @@ mod system_front;
 pub use front::Front;
 pub use line::Line;
 pub use runtime::Runtime;
-pub use served::{Served, WorldFailure, serve_world};
+pub use served::{Served, WorldFailure, serve_world, serve_world as serve_tcp};
 pub use service::{Address, Clients, Every, Service};
 pub use serving::serve;
 pub use socket::SocketMode;
