@@ -1,0 +1,15 @@
+mod actions;
+mod captures;
+mod cores;
+mod disks;
+mod images;
+mod lines;
+mod logs;
+mod methods;
+mod recoveries;
+mod same;
+mod seats;
+mod served;
+mod serving;
+mod threads;
+mod ticks;
