@@ -670,11 +670,10 @@ def serve_two(trial: Trial, folder: pathlib.Path, method: str, transport: str, m
     line = f"serve --dir {folder} --method {method} --{transport} {address} --clients 2".split()
     with subprocess.Popen([trial.program, *line, *more], stdout=subprocess.PIPE, stderr=subprocess.PIPE, text=True) as server:
         trial.check(f"serve {more}", begun(server), ["recovered 0 from 0\n", f"listening {address}\n"])
-        answers = (
-            answer_to(connect(address), b"set 0 5\nget 0\nmove 0 1 9\nfoo\nend\n"),
-            answer_to(connect(address), b"add 0 1\nget 0\nend\n"),
-        )
-        trial.check(f"answers {more}", answers, ("tick 1: + =5 -3 -16\n", "tick 2: + =6\n"))
+        batch = b"set 0 5\nget 0\nmove 0 1 9\nfoo\nend\n"
+        second, answer = (b"add 0 1\nget 0\nend\n", "tick 2: + =6\n") if more else (batch, "tick 2: + =5 -3 -16\n")
+        answers = answer_to(connect(address), batch), answer_to(connect(address), second)
+        trial.check(f"answers {more}", answers, ("tick 1: + =5 -3 -16\n", answer))
         output, errors = server.communicate(timeout=SECONDS)
     trial.runs += 1
     trial.seen["served"] += 1

@@ -3,7 +3,7 @@ ghost use Rattle.std.specs.Prelude.{◌≡◌, ◌++◌, ◌∷◌, []};
 
 use crate::same::same;
 use crate::tcp::try_client;
-use crate::worlds::{Reporter, new_files};
+use crate::worlds::{Report, Reporter, new_files};
 use client_service::Admission;
 use crossbeam_channel::unbounded;
 use disk_model::ModelFile;
@@ -25,9 +25,28 @@ const BATCHES: &[u8] = b"add 0 1\nget 0\nend\nadd 0 1\nget 0\nend\n";
 
 const ANSWERS: &[u8] = b"tick 1: + =1\ntick 2: + =2\n";
 
-const ONE: Admission = Admission {
+// A batch of an action, a read, a refused action and a line that is none.
+const BATCH: &[u8] = b"set 0 5\nget 0\nmove 0 1 9\nfoo\nend\n";
+
+const FIRST: &[u8] = b"tick 1: + =5 -3 -16\n";
+
+const SECOND: &[u8] = b"tick 2: + =5 -3 -16\n";
+
+// How a server is run: after how many ticks an image is due, and for how many clients.
+#[derive(Clone, Copy)]
+struct Run {
+    every: u32,
+    clients: u32,
+}
+
+const EACH_TICK: Run = Run {
+    every: 1,
     clients: 1,
-    idle: None,
+};
+
+const TWO_CLIENTS: Run = Run {
+    every: 64,
+    clients: 2,
 };
 
 // A port at which clients come, and the lines that are printed.
@@ -82,14 +101,13 @@ fn keep(rt: &impl Abort, lines: &mut Vec<Line>, line: Line)
     }
 }
 
-// Serves a new world of two cells to one client. Checks what is printed, and which
-// world was recovered.
-fn serve_one<M: Seats + Send + 'static, R: Threads + Wait + Clock + Abort + Copy + Send + 'static>(
-    rt: &R,
-    alloc: Global,
-    listener: Listener,
-) {
-    let (to, _heard) = unbounded(alloc).expect(rt, "a channel");
+// Serves a new world of two cells until two ticks were played. Checks what is printed, that clients
+// were let in, and which world was recovered.
+fn serve_two_ticks<
+    M: Seats + Send + 'static,
+    R: Threads + Wait + Clock + Abort + Copy + Send + 'static,
+>(rt: &R, alloc: Global, listener: Listener, run: Run) {
+    let (to, heard) = unbounded(alloc).expect(rt, "a channel");
     let mut desk = Desk {
         rt: *rt,
         listener: Some(listener),
@@ -103,8 +121,11 @@ fn serve_one<M: Seats + Send + 'static, R: Threads + Wait + Clock + Abort + Copy
         alloc,
         &mut desk,
         files,
-        Every(1),
-        ONE,
+        Every(run.every),
+        Admission {
+            clients: run.clients,
+            idle: None,
+        },
     );
     match served {
         Ok(served) => {
@@ -131,21 +152,24 @@ fn serve_one<M: Seats + Send + 'static, R: Threads + Wait + Clock + Abort + Copy
         _ => false,
     };
     same(rt, "the two lines", are_printed, true);
+    let first = heard.try_recv(rt).ok();
+    same(rt, "what is reported", first, Some(Report::Opened));
     same(rt, "lines on standard error", desk.noted.len(), 0);
 }
 
 fn start_server<
     M: Seats + Send + 'static,
     R: Threads + Wait + Clock + Abort + Copy + Send + 'static,
->(rt: &R, alloc: Global, listener: Listener) -> JoinHandle<()> {
+>(rt: &R, alloc: Global, listener: Listener, run: Run) -> JoinHandle<()> {
     let here = *rt;
-    let serve = move || serve_one::<M, R>(&here, alloc, listener);
+    let serve = move || serve_two_ticks::<M, R>(&here, alloc, listener, run);
     match thread::spawn(rt, serve) {
         Ok(server) => server,
         Err(_) => panic!(rt; "no thread"),
     }
 }
 
+// Serves clients that come one after the other. Each writes its input, and has to get its text.
 fn try_served<
     M: Seats + Send + 'static,
     R: Net<Listener = TcpListener, Stream = TcpStream>
@@ -156,16 +180,26 @@ fn try_served<
         + Copy
         + Send
         + 'static,
->(rt: &R, alloc: Global) {
+>(rt: &R, alloc: Global, run: Run, clients: &[(&[u8], &[u8])]) {
     let listener = TcpListener::bind(rt, "127.0.0.1:0").expect(rt, "a port");
     let to = listener.local_addr().expect(rt, "an address");
-    let server = start_server::<M, R>(rt, alloc, Listener::Tcp(listener));
-    try_client(rt, alloc, to, BATCHES, ANSWERS);
+    let server = start_server::<M, R>(rt, alloc, Listener::Tcp(listener), run);
+    for (input, text) in clients {
+        try_client(rt, alloc, to, input, text);
+    }
     server.join(rt);
 }
 
 #[test]
 fn world_in_files_is_served_over_a_port(rt: HostRuntime) {
-    try_served::<Zig, HostRuntime>(&rt, rt.alloc());
-    try_served::<Pong, HostRuntime>(&rt, rt.alloc());
+    let clients = [(BATCHES, ANSWERS)];
+    try_served::<Zig, HostRuntime>(&rt, rt.alloc(), EACH_TICK, &clients);
+    try_served::<Pong, HostRuntime>(&rt, rt.alloc(), EACH_TICK, &clients);
+}
+
+#[test]
+fn two_clients_play_one_after_the_other(rt: HostRuntime) {
+    let clients = [(BATCH, FIRST), (BATCH, SECOND)];
+    try_served::<Zig, HostRuntime>(&rt, rt.alloc(), TWO_CLIENTS, &clients);
+    try_served::<Pong, HostRuntime>(&rt, rt.alloc(), TWO_CLIENTS, &clients);
 }
