@@ -151,18 +151,16 @@ def recovery_of(files: Files) -> Found | Refused:
     return Found(taken.tick + len(tail), taken.tick, images.index(taken), words, parts)
 
 
-def losses(files: Files, found: Found | Refused) -> list[Refused]:
-    """What no crash leaves of a world: the files that were lost, in order."""
+def losses(files: Files, found: Found) -> list[Refused]:
+    """The files of a world that look lost, in order, and how each is refused: no crash of a served world leaves them so."""
     lost = list[Refused]()
-    for name, data in zip(NAMES, files if isinstance(found, Found) else ()):
-        assert isinstance(found, Found)
-        if name.startswith("image"):
-            if not data and found.source > 0:
-                lost.append(Refused(14, "lost_image", f"an image file is damaged: {name} is empty, so it was lost"))
-        elif not data and found.tick > 0:
-            lost.append(Refused(15, "lost_log", f"a log file is damaged: {name} is empty, so it was lost"))
-        elif (log := segment_of(data)) and log.base > found.tick:
-            lost.append(Refused(15, "gap", f"a log file is damaged: {name} begins after ticks that were lost"))
+    for name, data in zip(NAMES, files):
+        is_image = name.startswith("image")
+        code, why, what = (14, "lost_image", "an image") if is_image else (15, "lost_log", "a log")
+        if not data and found.source > 0:
+            lost.append(Refused(code, why, f"{what} file is damaged: {name} is empty, so it was lost"))
+        elif not is_image and (log := segment_of(data)) and log.base > found.tick:
+            lost.append(Refused(code, "gap", f"{what} file is damaged: {name} begins after ticks that were lost"))
     return lost
 
 

@@ -45,20 +45,19 @@ SUMMARY = (
 )
 
 
-def check_errors(command: str, errors: str, files: Files, found: Found | Refused) -> None:
-    """A refusal has its code, and perhaps its reason. Else what looks lost is noted, or an empty log of a world at tick 0."""
+def check_errors(what: str, errors: str, files: Files, found: Found | Refused, refuses: bool) -> None:
+    """A refusal has its code and a reason, which may be known. Else the first file that looks lost is named, and nothing more. If
+    losses are refused, a log that is empty beside an image of tick 0 is named."""
     said = [line for line in errors.splitlines() if not re.search(" image of tick | the (port|socket) is closed", line)]
     if isinstance(found, Refused):
-        compare(f"the fault of {command}", said[:1], [f"fault {found.code}"])
-        want(not found.reason or said[1:] == [f"worldd: {found.reason}"], f"{command} says {said[1:]}, and not {found.reason}")
-        return
-    lost = [f"worldd: {loss.reason.partition(': ')[2]}" for loss in losses(files, found)]
-    empty = [f"worldd: {name} is empty: if this world was played, its ticks are lost" for name in NAMES[2:]]
-    doubtful = [line for line, data in zip(empty, files[2:]) if not data and not found.tick][:1]
-    if lost:
-        want(lost[0] in said and {*said} <= {*lost, *doubtful}, f"{command} notes {said}, and {lost} look lost")
+        wanted = [f"fault {found.code}", f"worldd: {found.reason}" if found.reason else "".join(said[1:])]
     else:
-        compare(f"the notes of {command}", said, doubtful if command in ("recover", "serve") else [])
+        named = [loss.reason.partition(": ")[2] for loss in losses(files, found)]
+        if refuses and found.source == 0:
+            empty = [name for name, data in zip(NAMES[2:], files[2:]) if not data]
+            named = [f"{name} is empty: if this world was played, its ticks are lost" for name in empty]
+        wanted = [f"worldd: {name}" for name in named[:1]]
+    compare(f"the errors of {what}", said, wanted)
 
 
 # Known files, with what they recover to: a code, or the tick, that of the image, and the words.
@@ -284,7 +283,7 @@ class Trial:
         ended = ran(self.worldd, command, folder, *flags, *(["--to", str(copy)] if copy else []))
         wanted = int(isinstance(found, Refused)), printed(command, files, found)
         compare(" ".join(words), (ended.returncode, ended.stdout), wanted)
-        check_errors(command, ended.stderr, files, found)
+        check_errors(" ".join(words), ended.stderr, files, found, REFUSE in flags)
         if copy:
             if isinstance(found, Found):
                 compare("a copy", recovery_of(read(copy)), found)
@@ -296,7 +295,7 @@ class Trial:
         if isinstance(found, Refused):
             ended = ran(self.worldd, "serve", folder, *flags)
             compare("serve", (ended.returncode, ended.stdout), (1, ""))
-            check_errors("serve", ended.stderr, files, found)
+            check_errors("serve", ended.stderr, files, found, REFUSE in flags)
             return
         left, words, batch, last = started(files, found), list(found.words), random_batch(chance, len(found.words)), found.tick
         line = "fault 21"
@@ -310,7 +309,7 @@ class Trial:
                 left, _ = logged(left, 9, batch, line)
             compare("the answer", answer_to(connect(address), text_of(batch)), f"{line}\n")
             compare("the end", server.end(), f"stopped tick {last} acked {last}")
-        check_errors("serve", server.errors.read_text(), files, found)
+        check_errors("serve", server.errors.read_text(), files, found, REFUSE in flags)
         compare("the files after a batch", read(folder), left)
 
     def listening(self, folder: pathlib.Path, method: str, transport: str) -> list[str]:
@@ -321,7 +320,7 @@ class Trial:
         """Tries four files. It gives what was met, and what was wrong if anything was; the folder stays then."""
         name, files, looks, is_served = tried
         found, chance, met = recovery_of(files), random.Random(f"{self.seed} {name}"), collections.Counter[str]()
-        lost = losses(files, found)
+        lost = [] if isinstance(found, Refused) else losses(files, found)
         met.update({loss.why for loss in lost})
         if isinstance(found, Refused):
             met[found.why] += 1
