@@ -35,7 +35,7 @@ SERVE, REFUSE = ("--every", "64", "--clients", "1"), "--refuse-losses"
 # One of so many random sets of files is looked at by all that reads, and one of so many is served.
 LOOKED, SERVED = 10, 12
 # Files of more bytes are looked at by one command alone. A file may only grow to the limit where room is short.
-LONG, LIMITED = 1 << 18, 1 << 16
+LONG, LIMITED = 1 << 16, 1 << 16
 # What was met. Each count has to grow.
 SUMMARY = (
     "files trial: {rows} known and {sets} random sets: recovered from an image {alone} times, with a segment {one} and with both "
