@@ -63,6 +63,8 @@ fn run<T: Taker, D: Disk>(
     requires most { tick ≤ TICK_MAX }
     requires fits { IsTrue D.honest
         → FitsFiles keeper.old (D.content image_a.old) (D.content image_b.old) }
+    ensures { IsTrue D.honest
+        → FitsFiles keeper.new (D.content image_a.new) (D.content image_b.new) }
 {
     keeper.begin(tick);
     let left: u64 = keeper.left();

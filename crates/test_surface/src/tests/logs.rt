@@ -76,6 +76,8 @@ fn run(
 ) -> (u64, Option<u64>)
     requires fits { FitsFiles keeper.old a.old.content b.old.content }
     requires follows { QueueFollows keeper.old queue.old.items }
+    ensures fits { FitsFiles keeper.new a.new.content b.new.content }
+    ensures follows { QueueFollows keeper.new queue.new.items }
 {
     let work: u64 = keeper.work(queue);
     for steps in 0..work {

@@ -16,8 +16,8 @@ use std::thread::Threads;
 use worker_steps::{Gates, Opened, Together};
 use worker_threads::{Ends, Seats, TickWatch, Watch, Workers, ends_meet, start, start_world, stop};
 use workers::{
-    AskChannel, Asker, AwaitedReply, Checkpointer, Gate, ImageWriter, Log, LogWriter, Looks,
-    Mutator, Open, Pass, Place, Post, Refused, Reply, ReplySlot, play,
+    AskChannel, AskReceiver, Asker, AwaitedReply, Checkpointer, Gate, ImageWriter, Log, LogWriter,
+    Looks, Mutator, Open, Pass, Place, Post, Refused, Reply, ReplySlot, play,
 };
 use world_actions::{Action, Refusal};
 use world_start::{fresh_files, recover_world};
@@ -63,12 +63,15 @@ fn make_world<M: Seats, D: Disk + Drop>(
     }
 }
 
-fn new_world<M: Seats>(rt: &impl Abort, alloc: Global) -> Opened<M, ModelFile>
-    ensures { IsWhole ModelFile.honest ModelFile.content result.front result.back
-        result.images result.log result.ended }
+fn open_world<M: Seats, D: Disk + Drop>(
+    rt: &impl Abort,
+    alloc: Global,
+    files: FourFiles<D>,
+) -> Opened<M, D>
+    ensures { IsWhole D.honest D.content result.front result.back result.images
+        result.log result.ended }
 {
-    let files = empty_files(alloc).expect(rt, "memory");
-    match make_world(alloc, files) {
+    match make_world::<M, D>(alloc, files) {
         Ok(opened) => opened,
         Err((_, refusal)) => panic!(rt; "no new world: {refusal}"),
     }
@@ -101,7 +104,8 @@ fn play_on<M: Method>(
 
 // Plays a batch that no worker sees.
 fn check_play<M: Seats>(rt: &impl Abort, alloc: Global) {
-    let mut opened = new_world::<M>(rt, alloc);
+    let files = empty_files(alloc).expect(rt, "memory");
+    let mut opened = open_world::<M, ModelFile>(rt, alloc, files);
     let batch = new_batch(alloc).expect(rt, "memory");
     let (tick, text) = play_on(alloc, &mut opened.front, &batch).expect(rt, "memory");
     same(rt, tick.actions().len(), 1);
@@ -178,27 +182,61 @@ fn turn_checkpointer<M: Method, D: Disk + Drop, G: Gate + Drop>(
     opened
 }
 
-// Gives each worker a turn. A round is due after each tick.
-fn check_turns<M: Seats>(rt: &(impl Wait + Abort), alloc: Global) {
-    let (mut asks, asked) = AskChannel::open(alloc).expect(rt, "memory");
-    let mut asker = asks.session().expect(rt, "a session");
-    let opened = new_world::<M>(rt, alloc);
-    let mut workers = Together::begin(rt, alloc, open_gates(), opened, asked, 1).expect(
-        rt, "memory",
-    );
-    let awaited = send(rt, alloc, &mut asker);
-    turn_mutator(rt, &mut workers.mutator);
-    turn_log_writer(rt, &mut workers.log_writer);
-    let opened = turn_checkpointer(rt, &mut workers.checkpointer);
-    same(rt, opened, Some(1));
+// Gives each worker a turn, after which a batch is posted and its image is open.
+fn take_turns<M: Method, D: Disk + Drop>(
+    rt: &(impl Wait + Abort),
+    alloc: Global,
+    asker: &mut Asker,
+    mutator: &mut Mutator<M, Open>,
+    checkpointer: &mut Checkpointer<M, D, Open>,
+    log_writer: &mut LogWriter<D, Open>,
+)
+    requires log { IsAtRest log_writer.old }
+    requires images { IsResting checkpointer.old.images.keeper checkpointer.old.back }
+{
+    let awaited = send(rt, alloc, asker);
+    turn_mutator(rt, mutator);
+    turn_log_writer(rt, log_writer);
+    same(rt, turn_checkpointer(rt, checkpointer), Some(1));
     is_posted(rt, awaited, 1, b"tick 1: + =1\n");
-    drop(workers);
+}
+
+// The only session of a channel, and the end that takes its asks.
+fn new_session(rt: &impl Abort, alloc: Global) -> (Asker, AskReceiver) {
+    let (mut asks, asked) = AskChannel::open(alloc).expect(rt, "memory");
+    (asks.session().expect(rt, "a session"), asked)
+}
+
+// Gives each worker of a world a turn. A round is due after each tick.
+fn check_turns<M: Seats, D: Disk + Drop>(
+    rt: &(impl Wait + Abort),
+    alloc: Global,
+    files: FourFiles<D>,
+) {
+    let (mut asker, asked) = new_session(rt, alloc);
+    let opened = open_world::<M, D>(rt, alloc, files);
+    let Together {
+        mut mutator,
+        mut checkpointer,
+        mut log_writer,
+    } = Together::begin(rt, alloc, open_gates(), opened, asked, 1).expect(rt, "memory");
+    take_turns(
+        rt,
+        alloc,
+        &mut asker,
+        &mut mutator,
+        &mut checkpointer,
+        &mut log_writer,
+    );
+    drop((mutator, checkpointer, log_writer));
 }
 
 #[test]
 fn each_worker_takes_a_turn(rt: HostRuntime) {
-    check_turns::<Zig>(&rt, rt.alloc());
-    check_turns::<Pong>(&rt, rt.alloc());
+    let alloc = rt.alloc();
+    let (files, others) = (empty_files(alloc), empty_files(alloc));
+    check_turns::<Zig, ModelFile>(&rt, alloc, files.expect(&rt, "memory"));
+    check_turns::<Pong, ModelFile>(&rt, alloc, others.expect(&rt, "memory"));
 }
 
 // Hears of nothing.
@@ -224,7 +262,8 @@ fn start_workers<R: Threads + Wait + Abort + Copy + Send + 'static, M: Seats + S
     rt: &R,
     alloc: Global,
 ) -> (Running<M>, AskChannel) {
-    let opened = new_world::<M>(rt, alloc);
+    let files = empty_files(alloc).expect(rt, "memory");
+    let opened = open_world::<M, ModelFile>(rt, alloc, files);
     let looks = Looks::on_this_machine(rt, alloc).expect(rt, "memory");
     start(rt, alloc, open_gates(), Deaf, opened, 64, looks).expect(rt, "workers")
 }
