@@ -66,6 +66,9 @@ fn queue_both(
     assert!(rt; queue.try_push_back(Record::Switch(1)).is_ok());
 }
 
+// More steps than the start and the tick take.
+const STEPS: u64 = 100;
+
 // Makes steps up to the first answer that isn't Working. Returns how many were answered Working,
 // and the tick that the other one acknowledges.
 fn run(
@@ -79,16 +82,21 @@ fn run(
     ensures fits { FitsFiles keeper.new a.new.content b.new.content }
     ensures follows { QueueFollows keeper.new queue.new.items }
 {
-    let work: u64 = keeper.work(queue);
-    for steps in 0..work {
+    for steps in 0..STEPS {
         let answer: LogAnswer = keeper.step(queue, a, b);
-        match answer {
-            LogAnswer::Working => {}
-            LogAnswer::Acked(receipt) => return (steps, Some(tick_of(receipt))),
-            LogAnswer::Idle | LogAnswer::Down => return (steps, None),
+        if answer != LogAnswer::Working {
+            return (steps, acked(answer));
         }
     }
-    (work, None)
+    (STEPS, None)
+}
+
+// The tick that an answer acknowledges.
+fn acked(answer: LogAnswer) -> Option<u64> {
+    match answer {
+        LogAnswer::Acked(receipt) => Some(tick_of(receipt)),
+        LogAnswer::Idle | LogAnswer::Working | LogAnswer::Down => None,
+    }
 }
 
 // The tick of a receipt, which can be copied.
