@@ -123,15 +123,17 @@ fn take_round<M: Method>(back: &mut Back<M>, image: &mut [u64])
 // is open after the meeting, how many words were taken, and if they are those of the marks.
 fn run_both<M: Method + Send + 'static, R: Threads + Sync>(
     rt: &R,
+    alloc: Global,
     front: Front<M>,
     back: Back<M>,
-    lists: [Vec<u64>; 4],
+    list: Vec<u64>,
+    image: Vec<u64>,
 ) -> (Option<u64>, usize, bool)
     requires pair { front.pair ≡ back.pair }
     requires cells { 0 < length front.live }
     requires rounds { front.rounds ≡ [] }
 {
-    let [list, marked, image, taken] = lists;
+    let (marked, taken) = (Vec::new(alloc), Vec::new(alloc));
     let ((mut front, marked), (mut back, taken)) = join(
         rt,
         move || -> Done<Front<M>>
@@ -169,9 +171,9 @@ fn check_pair<M: Method + Send + 'static, R: Threads + Sync + Abort>(
 {
     let list = vec![in alloc; 7; CELLS].expect(rt, "memory");
     let image = vec![in alloc; u64::MAX; CELLS].expect(rt, "memory");
-    let lists = [list, Vec::new(alloc), image, Vec::new(alloc)];
     let words = ROUNDS as usize * CELLS;
-    same(rt, run_both(rt, front, back, lists), (None, words, true));
+    let found = run_both(rt, alloc, front, back, list, image);
+    same(rt, found, (None, words, true));
 }
 
 #[test]
