@@ -12,7 +12,7 @@ docs: ; scripts/map.py && scripts/check_docs.py
 crate: ; (cd crates/$(name) && rt check && rt test) && rt must-fail $(name)
 wrong-bodies: ; scripts/wrong_bodies.py $(name)
 serve: ; mkdir -p $(WORLD) && if [ ! -e $(WORLD)/image.a ]; then $(WORLDD) create --dir $(WORLD) --cells 1000; fi && \
-	$(WORLDD) serve --dir $(WORLD) --method zigzag --every 4096 --port $(PORT) --clients 100
+	$(WORLDD) serve --dir $(WORLD) --method zigzag --every 4096 --refuse-losses --port $(PORT) --clients 100
 try-serve: ; scripts/try_serve.sh $(WORLD) $(PORT)
 bench: ; bench/serve.sh
 install: ; ./install.sh "$(PREFIX)"

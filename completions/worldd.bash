@@ -10,16 +10,19 @@ _worldd() {
         'create --words' | *' --socket') mapfile -t COMPREPLY < <(compgen -f -- "$word"); return ;;
         *' --method') words='zigzag pingpong' ;;
         *' --socket-mode') words='0600 0660 0666' ;;
+        *' --statuses') words='plain detailed' ;;
         *' --cells' | *' --every' | *' --port' | *' --clients' | *' --idle' | *' --report' | *' --exit-when-closed') words= ;;
         'help '*) words='steps create recover inspect status backup salvage serve' ;;
-        'create '*) words='--dir --cells --words --help' ;;
-        'inspect '*) words='--dir --words --help' ;;
-        'recover '* | 'status '*) words='--dir --help' ;;
-        'backup '* | 'salvage '*) words='--dir --to --help' ;;
+        'create '*) words='--dir --cells --words --statuses --help' ;;
+        'inspect '*) words='--dir --words --refuse-losses --statuses --help' ;;
+        'recover '* | 'status '*) words='--dir --refuse-losses --statuses --help' ;;
+        'backup '*) words='--dir --to --refuse-losses --statuses --help' ;;
+        'salvage '*) words='--dir --to --statuses --help' ;;
         'serve '*)
             words='--dir --method --every --port --socket --socket-mode --clients --idle --report --exit-when-log-down
-                --exit-when-closed --help'
+                --exit-when-closed --refuse-losses --statuses --help'
             ;;
+        'steps '*) words='--statuses --help' ;;
         *) words=--help ;;
         esac
     fi

@@ -154,7 +154,7 @@ def was_refused(reader: int) -> bool:
 
 def is_fault(run: Run) -> bool:
     """Whether lack of memory ended the run, and was reported so."""
-    return run.status == 13 and run.errors.partition("\n")[0] == FAULT
+    return run.status == 1 and run.errors.partition("\n")[0] == FAULT
 
 
 def require(seen: collections.Counter[str], *kinds: str) -> None:

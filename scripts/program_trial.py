@@ -126,7 +126,7 @@ def try_command_lines(trial: Trial) -> None:
             "backup, salvage, serve, help]\n\nUsage: worldd <COMMAND>",
         ),
         ("stepz", "unrecognized subcommand 'stepz'\n\n  tip: a similar subcommand exists: 'steps'\n\nUsage: worldd <COMMAND>"),
-        ("steps extra", "unexpected argument 'extra' found\n\nUsage: worldd steps"),
+        ("steps extra", "unexpected argument 'extra' found\n\nUsage: worldd steps [OPTIONS]"),
         ("create --cells 1", f"{lacking}--dir <FOLDER>\n\n{make}"),
         ("create --dir world", f"{lacking}<--cells <N>|--words <FILE>>\n\n{make}"),
         ("create --dir world --cells 2 --words w", f"the argument '--cells <N>' cannot be used with '--words <FILE>'\n\n{make}"),
@@ -154,6 +154,7 @@ def try_command_lines(trial: Trial) -> None:
         ("serve --idle 86401", "invalid value '86401' for '--idle <SECONDS>': 86401 is not in 1..=86400"),
         ("serve --report 86401", "invalid value '86401' for '--report <SECONDS>': 86401 is not in 0..=86400"),
         ("serve --exit-when-closed 86401", "invalid value '86401' for '--exit-when-closed <SECONDS>': 86401 is not in 0..=86400"),
+        ("recover --statuses all", "invalid value 'all' for '--statuses <WHICH>'\n  [possible values: plain, detailed]"),
         ("serve --clients 100001", "invalid value '100001' for '--clients <K>': 100001 is not in 1..=100000"),
     ):
         trial.ends(f"worldd {words}", trial.run(*words.split()), "", f"error: {text}\n\n{MORE}", 2)
@@ -168,15 +169,15 @@ def try_command_lines(trial: Trial) -> None:
     usage = "\n\nUsage: worldd"
     for words, start, end in (
         ("", f"A main-memory world server with asynchronous checkpoints{usage} <COMMAND>\n", "  -V, --version  Print version\n"),
-        ("steps", f"Runs the script on standard input, over a world in memory{usage} steps\n", "21 no tick numbers are left\n"),
+        ("steps", f"Runs the script on standard input, over a world in memory{usage} steps [OPTIONS]\n", "21 no tick numbers are left\n"),
         (
             "create",
-            f"Makes the files of a new world in a folder\n\n{make}\n",
+            f"Makes the files of a new world in a folder\n\n{make.replace('create --dir', 'create [OPTIONS] --dir')}\n",
             "\n  its own, or another program writes this world, 22 a file may hold a world: nothing\n  was written\n",
         ),
         (
             "recover",
-            "Prints which world the files of a folder hold\n\nUsage: worldd recover --dir <FOLDER>\n",
+            "Prints which world the files of a folder hold\n\nUsage: worldd recover [OPTIONS] --dir <FOLDER>\n",
             "  17 there is no memory, 18 a file is missing or can't be read\n",
         ),
         (
@@ -187,18 +188,18 @@ def try_command_lines(trial: Trial) -> None:
         ),
         (
             "status",
-            "Prints figures of the world in a folder, also while it is served\n\nUsage: worldd status --dir <FOLDER>\n",
+            "Prints figures of the world in a folder, also while it is served\n\nUsage: worldd status [OPTIONS] --dir <FOLDER>\n",
             "\nend. If the files hold no world this line is all, and it ends as `recover` does, and as\n"
             "`backup` if no copy can be taken.\n",
         ),
         (
             "backup",
-            "Copies the world in a folder, also while it is served\n\nUsage: worldd backup --dir <FOLDER> --to <FOLDER>\n",
+            "Copies the world in a folder, also while it is served\n\nUsage: worldd backup [OPTIONS] --dir <FOLDER> --to <FOLDER>\n",
             "\n  began a new image under each of 1000 tries, 22 the folder of the copy isn't empty\n",
         ),
         (
             "salvage",
-            "Makes a world of what can be read of damaged or lost files\n\nUsage: worldd salvage --dir <FOLDER> --to <FOLDER>\n",
+            "Makes a world of what can be read of damaged or lost files\n\nUsage: worldd salvage [OPTIONS] --dir <FOLDER> --to <FOLDER>\n",
             "\n  22 the folder of the new files isn't empty\n",
         ),
         (
@@ -227,7 +228,7 @@ def create(trial: Trial, folder: pathlib.Path, cells: int = 2, full: bool = Fals
 def check_made(trial: Trial, what: str, got: Outcome, folder: pathlib.Path) -> None:
     """A world of two cells was made, and these are its files."""
     trial.ends(what, got, "created 2\n", "", 0)
-    trial.check(what, files_of(folder), (NEW_IMAGE, b"\0", NEW_LOG, b"\0"))
+    trial.check(what, files_of(folder), (NEW_IMAGE, b"", NEW_LOG, b"\0"))
 
 
 def try_creating(trial: Trial) -> None:
@@ -236,12 +237,12 @@ def try_creating(trial: Trial) -> None:
         check_made(trial, "a new world", create(trial, folder), folder)
         trial.ends("the new world", trial.run("recover", "--dir", str(folder)), "recovered 0 from 0\n", "", 0)
         trial.ends("made again", create(trial, folder), "", fault_of(folder, 22, "image.a", HOLDS_A_WORLD), 1)
-        trial.check("made again", files_of(folder), (NEW_IMAGE, b"\0", NEW_LOG, b"\0"))
+        trial.check("made again", files_of(folder), (NEW_IMAGE, b"", NEW_LOG, b"\0"))
     with new_folder() as folder:
         trial.ends("the most cells", create(trial, folder, 1_048_576), "created 1048576\n", "", 0)
         lines = (
             "image.a: open, format 2, 1048576 cells, tick 0, 8388625 bytes\n"
-            "image.b: closed, 1 byte\n"
+            "image.b: closed, 0 bytes\n"
             "log.a: open, format 2, base 0, 0 groups, 0 ticks, 10 bytes\n"
             "log.b: closed, 1 byte\n"
             "recovered 0 from 0 in image.a\n"
@@ -255,7 +256,7 @@ def try_creating(trial: Trial) -> None:
         trial.check("other files", others, (b"of another program", GARBAGE))
     with new_folder() as folder:
         trial.ends("a full output", create(trial, folder, full=True), "", FULL, 1)
-        trial.check("a full output", files_of(folder), (NEW_IMAGE, b"\0", NEW_LOG, b"\0"))
+        trial.check("a full output", files_of(folder), (NEW_IMAGE, b"", NEW_LOG, b"\0"))
 
 
 def try_completing(trial: Trial) -> None:
@@ -323,7 +324,7 @@ def try_words(trial: Trial) -> None:
             made = trial.run("create", "--dir", str(folder), "--words", str(listed))
             trial.ends(f"the words {text!r}", made, f"created {len(words)}\n", "", 0)
             image = b"\1" + struct.pack(f"<QQ{len(words)}Q", len(words) + (0x20 << 56), 0, *words)
-            trial.check(f"the words {text!r}", files_of(folder), (image, b"\0", b"\0", b"\0"))
+            trial.check(f"the words {text!r}", files_of(folder), (image, b"", b"", b""))
             found = trial.run("inspect", "--words", "--dir", str(folder)).output.splitlines()
             trial.check(f"the words {text!r}", found[-2:], ["recovered 0 from 0 in image.a", " ".join(map(str, words))])
     bad = f"has something other than numbers from 0 to {most} with one space between them"
@@ -446,9 +447,9 @@ def both(trial: Trial, folder: pathlib.Path, full: bool = False) -> tuple[Outcom
     return trial.run("recover", "--dir", str(folder), full=full), trial.run("inspect", "--dir", str(folder), full=full)
 
 
-def check_found(trial: Trial, what: str, folder: pathlib.Path, recovered: str, lines: str, noted: str = "") -> None:
-    """Both end well, recover with this line and perhaps a note on standard error, and inspect with these lines."""
-    trial.check(what, both(trial, folder), (Outcome(recovered, noted, 0), Outcome(lines, "", 0)))
+def check_found(trial: Trial, what: str, folder: pathlib.Path, recovered: str, lines: str) -> None:
+    """Both end well, recover with this line, and inspect with these lines."""
+    trial.check(what, both(trial, folder), (Outcome(recovered, "", 0), Outcome(lines, "", 0)))
 
 
 def check_fault(trial: Trial, what: str, folder: pathlib.Path, fault: str, lines: str) -> None:
@@ -478,7 +479,7 @@ def try_found(trial: Trial) -> None:
             "log.b: closed, 1 byte\n"
             "recovered 0 from 0 in image.b\n"
         )
-        check_found(trial, "a world in image.b", folder, "recovered 0 from 0\n", lines, doubtful("log.a"))
+        check_found(trial, "a world in image.b", folder, "recovered 0 from 0\n", lines)
     with new_folder(NEW_IMAGE, b"", LOG_OF_GROUPS, NEW_LOG_OF_3) as folder:
         lines = (
             "image.a: open, format 2, 2 cells, tick 0, 33 bytes\n"
@@ -490,32 +491,55 @@ def try_found(trial: Trial) -> None:
         check_found(trial, "groups and ticks", folder, "recovered 3 from 0\n", lines)
 
 
-# Files of which one was lost: an empty one beside an image of tick 3, an empty log beside ticks, and a log that begins after
-# the recovered tick.
+# Files of which one was lost, as no crash leaves them: an empty one beside an image of tick 3, and a log that begins after the
+# recovered tick. Of each the code by which it is refused, what is lost, and what recovery answers.
 LOST = (
-    ((b"", IMAGE_OF_3, LOG_OF_3, LOG_OF_4), 14, "an image file is damaged: image.a is empty, so it was lost"),
-    ((IMAGE_OF_3, b"", LOG_OF_3, LOG_OF_4), 14, "an image file is damaged: image.b is empty, so it was lost"),
-    ((IMAGE_OF_3, IMAGE_OF_2, b"", LOG_OF_4), 15, "a log file is damaged: log.a is empty, so it was lost"),
-    ((IMAGE_OF_3, IMAGE_OF_2, LOG_OF_3, b""), 15, "a log file is damaged: log.b is empty, so it was lost"),
-    ((NEW_IMAGE, b"", LOG_OF_GROUPS, b""), 15, "a log file is damaged: log.b is empty, so it was lost"),
-    ((NEW_IMAGE, b"", b"", LOG_OF_GROUPS), 15, "a log file is damaged: log.a is empty, so it was lost"),
-    ((IMAGE_OF_2, b"\0", b"\0", LOG_OF_4), 15, "a log file is damaged: log.b begins after ticks that were lost"),
-    ((b"\0", IMAGE_OF_2, NEW_LOG_OF_3, b"\0"), 15, "a log file is damaged: log.a begins after ticks that were lost"),
+    ((b"", IMAGE_OF_3, LOG_OF_3, LOG_OF_4), 14, "image.a is empty, so it was lost", "4 from 3"),
+    ((IMAGE_OF_3, b"", LOG_OF_3, LOG_OF_4), 14, "image.b is empty, so it was lost", "4 from 3"),
+    ((IMAGE_OF_3, b"", b"", b""), 14, "image.b is empty, so it was lost", "3 from 3"),
+    ((IMAGE_OF_3, IMAGE_OF_2, b"", LOG_OF_4), 15, "log.a is empty, so it was lost", "4 from 3"),
+    ((IMAGE_OF_3, IMAGE_OF_2, LOG_OF_3, b""), 15, "log.b is empty, so it was lost", "3 from 3"),
+    ((IMAGE_OF_2, b"\0", b"\0", LOG_OF_4), 15, "log.b begins after ticks that were lost", "2 from 2"),
+    ((b"\0", IMAGE_OF_2, NEW_LOG_OF_3, b"\0"), 15, "log.a begins after ticks that were lost", "2 from 2"),
+    ((NEW_IMAGE, b"", NEW_LOG, NEW_LOG_OF_3), 15, "log.b begins after ticks that were lost", "0 from 0"),
 )
+DAMAGED = {14: "an image file is damaged", 15: "a log file is damaged"}
+REFUSE = "--refuse-losses"
+
+
+def serve_once(trial: Trial, folder: pathlib.Path, *more: str) -> tuple[str, str]:
+    """What a server prints first, and what it notes of empty or lost files, by the end of its one batch."""
+    line = f"serve --dir {folder} --method zigzag --port 0 --clients 1".split()
+    with subprocess.Popen([trial.program, *line, *more], stdout=subprocess.PIPE, stderr=subprocess.PIPE, text=True) as server:
+        first, listening = begun(server)
+        trial.check(f"serve {more}", answer_to(connect(listening.split()[-1]), b"end\n")[:5], "tick ")
+        _, errors = server.communicate(timeout=SECONDS)
+    trial.runs += 1
+    return first, "".join(line for line in errors.splitlines(True) if " empty" in line or " lost" in line)
 
 
 def try_lost(trial: Trial) -> None:
-    """Files of which one was lost: no command takes them for a world, and nothing is written."""
+    """Files of which one was lost: each command answers as recovery does and names it, or refuses it if that is asked for."""
     serve = "--method", "zigzag", "--port", "0", "--clients", "1"
-    for files, code, why in LOST:
-        fault = f"fault {code}\nworldd: {why}\n"
+    for files, code, why, answer in LOST:
+        fault, note = f"fault {code}\nworldd: {DAMAGED[code]}: {why}\n", f"worldd: {why}\n"
         with new_folder(*files) as folder, new_folder() as to:
             for line in (("recover",), ("status",), ("serve", *serve), ("backup", "--to", str(to))):
                 printed = NO_SERVER if line == ("status",) else ""
-                trial.ends(f"{line[0]}: {why}", trial.run(*line, "--dir", str(folder)), printed, fault, 1)
-            got = trial.run("inspect", "--dir", str(folder))
-            trial.check(f"inspect: {why}", (got.output.count("\n"), got.errors, got.status), (4, fault, 1))
+                trial.ends(f"{line[0]} refused: {why}", trial.run(*line, REFUSE, "--dir", str(folder)), printed, fault, 1)
+            got = trial.run("inspect", REFUSE, "--dir", str(folder))
+            trial.check(f"inspect refused: {why}", (got.output.count("\n"), got.errors, got.status), (4, fault, 1))
             trial.check(why, (files_of(folder), list(to.iterdir())), (files, []))
+            trial.ends(f"recover: {why}", trial.run("recover", "--dir", str(folder)), f"recovered {answer}\n", note, 0)
+            copy = trial.run("backup", "--to", str(to), "--dir", str(folder))
+            trial.ends(f"backup: {why}", copy, f"backed up {answer}\n", note, 0)
+            for command, place in (("status", 0), ("inspect", 4)):
+                got = trial.run(command, "--dir", str(folder))
+                line = got.output.splitlines()[place].partition(" in ")[0]
+                trial.check(f"{command}: {why}", (line, got.errors, got.status), (f"recovered {answer}", note, 0))
+            trial.check(why, files_of(folder), files)
+            trial.check(f"serve: {why}", serve_once(trial, folder), (f"recovered {answer}\n", note))
+            trial.seen["served beside a lost file"] += 1
 
 
 def doubtful(name: str) -> str:
@@ -524,24 +548,23 @@ def doubtful(name: str) -> str:
 
 
 def try_doubtful(trial: Trial) -> None:
-    """Worlds at tick 0 of which a log may have been lost: they are read and served, and the log is named."""
-    for logs, note in (
-        ((b"", b""), doubtful("log.a")),
-        ((b"", b"\0"), doubtful("log.a")),
-        ((NEW_LOG, b""), doubtful("log.b")),
-        ((NEW_LOG, b"\0"), ""),
-        ((b"\0", b"\0"), ""),
+    """Worlds with an image of tick 0 of which a log may have been lost: they are read and served, and the log is named if losses
+    are refused."""
+    for logs, tick, note in (
+        ((b"", b""), 0, doubtful("log.a")),
+        ((b"", b"\0"), 0, doubtful("log.a")),
+        ((NEW_LOG, b""), 0, doubtful("log.b")),
+        ((LOG_OF_GROUPS, b""), 3, doubtful("log.b")),
+        ((b"", LOG_OF_GROUPS), 3, doubtful("log.a")),
+        ((NEW_LOG, b"\0"), 0, ""),
+        ((b"\0", b"\0"), 0, ""),
     ):
-        with new_folder(NEW_IMAGE, b"", *logs) as folder:
-            trial.ends(f"recover beside {logs}", trial.run("recover", "--dir", str(folder)), "recovered 0 from 0\n", note, 0)
-            line = f"serve --dir {folder} --method zigzag --port 0 --clients 1".split()
-            with subprocess.Popen([trial.program, *line], stdout=subprocess.PIPE, stderr=subprocess.PIPE, text=True) as server:
-                address = begun(server)[1].split()[-1]
-                trial.check(f"serve beside {logs}", answer_to(connect(address), b"end\n"), "tick 1:\n")
-                _, errors = server.communicate(timeout=SECONDS)
-            trial.runs += 1
-            trial.seen["served beside an empty log" if note else "served"] += 1
-            trial.check(f"the note beside {logs}", "".join(line for line in errors.splitlines(True) if " empty" in line), note)
+        for more, named in (((), ""), ((REFUSE,), note)):
+            with new_folder(NEW_IMAGE, b"", *logs) as folder:
+                recovered = f"recovered {tick} from 0\n"
+                trial.ends(f"recover beside {logs}", trial.run("recover", *more, "--dir", str(folder)), recovered, named, 0)
+                trial.check(f"serve beside {logs}", serve_once(trial, folder, *more), (recovered, named))
+                trial.seen["served beside an empty log" if named else "served"] += 1
 
 
 def try_long(trial: Trial) -> None:
@@ -775,7 +798,7 @@ PARTS = (
 # What has to be seen.
 SEEN = (
     "status 0", "status 2", *(f"status 1, fault {code}" for code in (13, 14, 15, 16, 18, 22)),
-    "served", "served beside an empty log", "reported with its log down",
+    "served", "served beside an empty log", "served beside a lost file", "reported with its log down",
 )
 
 

@@ -42,7 +42,7 @@ EXIT = ("--exit-when-log-down",)
 # The flags of a server that starts beside others.
 SERVE = "--method", "zigzag", "--port", "0", "--clients", "1"
 # The exit statuses of a shortage that passes, and of a listener that failed.
-SHORTAGE, LOST_LISTENER = 13, 10
+SHORTAGE, LOST_LISTENER, DETAILED = 13, 10, ("--statuses", "detailed")
 # How many clients come while there is no room for threads: more than there are stacks to use again.
 CROWD = 20
 # How many clients come and go while stacks are counted, and what the stack of a session's thread takes. So many sessions may
@@ -127,6 +127,7 @@ class Server:
         self.address = str(self.path) if transport == SOCKET else str(free_port())
         fixed = ("--method", "zigzag", f"--{transport}", self.address, "--clients", str(clients))
         flags = flags if "--every" in flags else ("--every", "4096", *flags)
+        flags = flags if "--statuses" in flags else (*DETAILED, *flags)
         process = {"stdout": subprocess.PIPE, "stderr": subprocess.PIPE, **process}
         command: Words = [worldd, "serve", "--dir", folder, *fixed, *flags]
         self.process: subprocess.Popen[bytes] = subprocess.Popen(command, **process)
@@ -311,8 +312,9 @@ class Trial:
     def lost_listener(self) -> None:
         """The listener fails after two clients: a line says so, they play on, and the server ends once they have left."""
         library = library_of("lost_listener.c", self.scratch)
-        for transport in TRANSPORTS:
-            server = self.server(transport=transport, env=os.environ | {"LD_PRELOAD": str(library), "ACCEPTS": "2"})
+        for transport, statuses in itertools.product(TRANSPORTS, ("detailed", "plain")):
+            process = {"env": os.environ | {"LD_PRELOAD": str(library), "ACCEPTS": "2"}}
+            server = self.server("--statuses", statuses, transport=transport, **process)
             first, second = server.client(), server.client()
             want(first.play().startswith(b"tick") and second.play().startswith(b"tick"), "no answer of two clients")
             server.wait_until_closed()
@@ -320,7 +322,9 @@ class Trial:
             for client in (first, second):
                 client.leave()
             status, output, errors = server.end()
-            is_ended = status == LOST_LISTENER and output.endswith("stopped tick 3 acked 3\n")
+            wanted, fault = (LOST_LISTENER, 0) if statuses == "detailed" else (1, 1)
+            named = errors.count("fault 18\nworldd: the listener failed\n")
+            is_ended = (status, named) == (wanted, fault) and output.endswith("stopped tick 3 acked 3\n")
             want(is_ended, f"the end by its listener: {status} {output}")
             want("worldd: listener failed: Invalid argument (os error 22)\n" in errors, f"a failed listener: {errors}")
             self.met["listener lost"] += 1
@@ -416,7 +420,12 @@ class Trial:
         if not is_root() or subprocess.run(mount, capture_output=True).returncode:
             return
         try:
-            made = self.run("create", "--dir", full, "--cells", "100000", capture_output=True, text=True)
+            line = "create", "--dir", full, "--cells", "100000"
+            made = self.run(*line, capture_output=True, text=True)
+            want(made.returncode == 1 and made.stderr.startswith("fault 18\n"), f"create by plain statuses: {made}")
+            for file in full.iterdir():
+                file.unlink()
+            made = self.run(*line, *DETAILED, capture_output=True, text=True)
             want(made.returncode == SHORTAGE and made.stderr.startswith("fault 18\n"), f"create on a full disk: {made}")
             self.met["shortage of room"] += 1
             for file in full.iterdir():
@@ -656,6 +665,7 @@ class Trial:
             want("listening" not in output, "it listened without its threads")
             if "there is no thread for the server" in errors:
                 want(status == SHORTAGE and errors.startswith("fault 17\n"), f"no thread: {status} {errors}")
+                want(output == "recovered 0 from 0\n", f"no thread before the world was recovered: {output}")
                 self.met["no thread named"] += 1
 
     def socket_modes(self) -> None:

@@ -22,7 +22,7 @@ if grep -q "$open" /proc/net/tcp; then
     exit 1
 fi
 [ -e "$folder/image.a" ] || rt try -- create --dir "$folder" --cells 1000 </dev/null
-rt try --seconds 86400 --steps 1000000000000 -- serve --dir "$folder" --method zigzag --every 4096 --port "$port" --clients 2 </dev/null &
+rt try --seconds 86400 --steps 1000000000000 -- serve --dir "$folder" --method zigzag --every 4096 --refuse-losses --port "$port" --clients 2 </dev/null &
 try=$!
 trap 'kill $try 2>/dev/null' INT TERM
 until grep -q "$open" /proc/net/tcp; do

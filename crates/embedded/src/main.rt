@@ -13,7 +13,7 @@ use std::fs::{File, Files};
 use std::io;
 use std::time::Clock;
 use world_actions::Refusal;
-use world_folder::{Ending, failure_of, open_existing, opened};
+use world_folder::{Ending, Exit, failure_of, open_existing, opened};
 use zigzag::Zigzag;
 
 /// The folder of the world.
@@ -22,14 +22,14 @@ const FOLDER: &str = "world";
 /// An image is written after so many ticks.
 const EVERY: u32 = 4096;
 
-fn main(rt: HostRuntime) -> Ending {
+fn main(rt: HostRuntime) -> Exit {
     // Before a file of a world: it must not get the descriptor of a standard stream that is closed.
     let null = opened(rt.alloc(), "/dev", "null", take_standard_streams(&rt));
     let _null = match null {
         Ok(null) => null,
-        Err(ending) => return ending,
+        Err(ending) => return Exit::plain(ending),
     };
-    Ending::of_command(play(&rt))
+    Exit::plain(Ending::of_command(play(&rt)))
 }
 
 // Opens the world, answers the batches of standard input, and gives the files back at its end.

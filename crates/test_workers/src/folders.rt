@@ -3,7 +3,7 @@ use crate::same::same;
 use disk_model::FourFiles;
 use std::alloc::Global;
 use std::process::Abort;
-use world_folder::{Listed, ModelFolder, Noted, create_listed, create_zeros};
+use world_folder::{Listed, ModelFolder, Noted, OnLoss, create_listed, create_zeros};
 use world_reports::{copy_into, report_status, report_world, salvage_into};
 
 fn no_bytes(alloc: Global) -> FourFiles<Vec<u8>> {
@@ -43,6 +43,14 @@ fn is_last(rt: &impl Abort, folder: &ModelFolder, line: &str) {
     }
 }
 
+// The line was printed on standard error, right before the last line.
+fn is_warned(rt: &impl Abort, folder: &ModelFolder, line: &str) {
+    match folder.noted().get(1) {
+        Some(Noted::Warned(warned)) => same(rt, "the note", warned.as_str(), line),
+        _ => panic!(rt; "no note"),
+    }
+}
+
 // How many files were made.
 fn count_made(folder: &ModelFolder) -> usize {
     let mut made = 0usize;
@@ -77,14 +85,37 @@ fn no_file_is_made_beside_an_image(rt: HostRuntime) {
     same(&rt, "files that were made", count_made(&folder), 0);
 }
 
+// The bytes of files of which log.b begins after a tick that is lost, in a folder where all are.
+fn with_a_gap(rt: &impl Abort, alloc: Global) -> ModelFolder {
+    let mut files = world_bytes(rt, alloc);
+    let gap = &[1, 3, 0, 0, 0, 0, 0, 0, 32, 0];
+    files.log_b = Vec::from_slice(alloc, gap).expect(rt, "a log");
+    ModelFolder::new(alloc, files, each(true))
+}
+
 #[test]
 fn a_world_is_recovered_and_its_status_printed(rt: HostRuntime) {
     let alloc = rt.alloc();
     let mut folder = ModelFolder::new(alloc, world_bytes(&rt, alloc), each(true));
-    assert!(rt; report_world(alloc, &mut folder, "D").is_ok());
+    assert!(rt; report_world(alloc, &mut folder, "D", OnLoss::Warn).is_ok());
     is_last(&rt, &folder, "recovered 0 from 0");
-    assert!(rt; report_status(alloc, &mut folder, "D").is_ok());
+    assert!(rt; report_status(alloc, &mut folder, "D", OnLoss::Warn).is_ok());
     is_last(&rt, &folder, "server: none");
+}
+
+#[test]
+fn a_loss_is_named_and_refused_if_asked(rt: HostRuntime) {
+    let alloc = rt.alloc();
+    let mut folder = with_a_gap(&rt, alloc);
+    assert!(rt; report_world(alloc, &mut folder, "D", OnLoss::Warn).is_ok());
+    is_last(&rt, &folder, "recovered 0 from 0");
+    is_warned(
+        &rt,
+        &folder,
+        "worldd: log.b begins after ticks that were lost",
+    );
+    let refused = report_world(alloc, &mut with_a_gap(&rt, alloc), "D", OnLoss::Refuse);
+    assert!(rt; refused.is_err());
 }
 
 #[test]
@@ -92,7 +123,7 @@ fn a_world_is_copied_and_salvaged(rt: HostRuntime) {
     let alloc = rt.alloc();
     let mut from = ModelFolder::new(alloc, world_bytes(&rt, alloc), each(true));
     let mut copy = ModelFolder::new(alloc, world_bytes(&rt, alloc), each(false));
-    assert!(rt; copy_into(alloc, &mut from, "D", &mut copy, "E").is_ok());
+    assert!(rt; copy_into(alloc, &mut from, "D", &mut copy, "E", OnLoss::Warn).is_ok());
     is_last(&rt, &copy, "backed up 0 from 0");
     let mut salvaged = ModelFolder::new(alloc, world_bytes(&rt, alloc), each(false));
     assert!(rt; salvage_into(alloc, &mut from, "D", &mut salvaged, "F").is_ok());

@@ -1,5 +1,5 @@
 -- Files of which none is open hold no world.
-use Rattle.std.proofs.Common.{◌≡◌, ℕ, List, true, false, Option, Some, None, length, refl, sym, subst, ap, ◌∙◌, inl, inr, ⊎_elim, arith}
+use Rattle.std.proofs.Common.{◌≡◌, ◌≤◌, ℕ, List, [], true, false, Option, Some, None, length, refl, sym, subst, ap, ◌∙◌, inl, inr, ⊎_elim, arith}
 use Rattle.std.specs.Prelude.{get_or, nat_le, ◌==◌}
 use Rattle.std.proofs.lemmas.Bool.{cases_lt}
 use Rattle.std.proofs.lemmas.Grind.{common_steps}
@@ -8,7 +8,6 @@ use Rattle.world_actions.specs.declared.refusal.Refusal.TheVariants.{NotEmpty}
 use Rattle.file_format.specs.declared.gate.TheConstants.{OPEN_GATE}
 use Rattle.disk_model.specs.declared.four_files.FourFiles.{FourFiles}
 use Rattle.image_files.specs.Image.{Closed, image_of}
-use Rattle.image_files.proofs.GateLemmas.{shut_reads_closed}
 use Rattle.action_log.specs.Segment.{ClosedSegment, IsSegment}
 use Rattle.world_start.specs.Fresh.{FilesAreClosed}
 use Rattle.world_folder.specs.Completing.{IsOpenFile, IsOpenThere, IsOccupied, KeepsThere, IsReady, AreTaken}
@@ -40,20 +39,20 @@ segment_closed bytes not =
       | inr long ↦ inr (λ gate. not (long, gate))
     ]
 
-gate_apart : (gate : ℕ) → gate ≡ 0 → gate ≡ 1 → ⊥
-gate_apart gate is_closed is_open = absurd cc
+empty_not_open : (header : ℕ) → 1 ≤ header → (bytes : List ℕ) → bytes ≡ [] → ¬ IsOpenFile header bytes
+empty_not_open header some bytes is = λ opened. (let none : length bytes ≡ 0 = ap length is in absurd (omega (arith, some, none, opened.0)))
 
 module _ {D : Type 0} (content : D → List ℕ) (leaves : D → List ℕ → Type 0) where
   image_ready : (file : WorldFile) (there read : Option D) (disk : D) (before after : List Act)
       → ¬ IsOpenThere content IMAGE_HEAD there → KeepsThere content leaves there read → IsReady content leaves file read disk before after → image_of (content disk) ≡ Closed
-  image_ready file None None disk before after not kept ready = shut_reads_closed (content disk) (ready.2.0, gate_apart _ ready.2.1)
+  image_ready file None None disk before after not kept ready = image_closed (content disk) (empty_not_open IMAGE_HEAD (omega arith) (content disk) ready.2)
   image_ready file None (Some new) disk before after not kept ready = absurd cc
   image_ready file (Some old) None disk before after not kept ready = absurd kept
   image_ready file (Some old) (Some new) disk before after not kept ready = ap image_of (ap content ready.0 ∙ kept.same_content) ∙ image_closed (content old) not
 
   segment_ready : (file : WorldFile) (there read : Option D) (disk : D) (before after : List Act)
       → ¬ IsOpenThere content SEGMENT_HEAD there → KeepsThere content leaves there read → IsReady content leaves file read disk before after → IsSegment (content disk) ClosedSegment
-  segment_ready file None None disk before after not kept ready = inr (gate_apart _ ready.2.1)
+  segment_ready file None None disk before after not kept ready = segment_closed (content disk) (empty_not_open SEGMENT_HEAD (omega arith) (content disk) ready.2)
   segment_ready file None (Some new) disk before after not kept ready = absurd cc
   segment_ready file (Some old) None disk before after not kept ready = absurd kept
   segment_ready file (Some old) (Some new) disk before after not kept ready =

@@ -4,7 +4,7 @@ use Rattle.std.specs.Prelude.{◌≡◌, ◌⊎◌, ◌≤◌, ℕ, List, ◌∷
 use Rattle.std.specs.Prelude.{option_map}
 use Rattle.std.specs.Path.{path_buf_bytes, path_join}
 use Rattle.world_actions.specs.declared.refusal.Refusal.TheVariants.{NoMemory, Device, NotEmpty}
-use Rattle.file_format.specs.Gate.{HasOpenGate, HasClosedGate}
+use Rattle.file_format.specs.Gate.{HasOpenGate}
 use Rattle.disk_model.specs.Disk.{Only}
 use Rattle.disk_model.specs.FourFiles.{EachFile, KeepsFile}
 use Rattle.world_start.specs.Opening.{AreSynced}
@@ -102,12 +102,12 @@ module _ {D : Type 0} (content : D → List ℕ) (leaves : D → List ℕ → Ty
     pub log_a : IsSyncedIfThere files.log_a
     pub log_b : IsSyncedIfThere files.log_b
 
-  -- the file that was there, or a new one with a closed gate, which is synced
+  -- the file that was there, or a new and empty one, which is synced
   abbrev pub IsReady : (file : WorldFile) → Option D → D → (before after : List Act) → Type 0
   IsReady file (Some there) disk before after = (disk ≡ there) × (after ≡ before)
   IsReady file None disk before after =
       (entry : Entry) × (after ≡ with_lock file entry (Made file entry ∷ before))
-      × HasClosedGate (content disk) × Only (content disk) (leaves disk)
+      × (content disk ≡ []) × Only (content disk) (leaves disk)
 
   -- each file of four is the one that was there, or was made under its own name
   pub record AreReady (there : FourFiles (Option D)) (files : FourFiles D)

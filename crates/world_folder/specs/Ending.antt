@@ -1,4 +1,4 @@
--- How the program ends.
+-- How the program ends, and its exit statuses.
 use Rattle.std.specs.Prelude.{◌≡◌, ◌≢◌, ◌⊎◌, ℕ, List, Option, Some, None, Result, MatchResult, Vec}
 use Rattle.std.specs.IoError.{error_kind}
 use Rattle.std.specs.Path.{path_buf_bytes, path_join}
@@ -17,6 +17,9 @@ use Rattle.world_folder.specs.declared.ending.Ending.TheVariants.{Ran, HelpPrint
 use Rattle.world_folder.specs.declared.ending.Ending.TheVariants.{Unreadable, NoWorld, Unfinished}
 use Rattle.world_folder.specs.declared.ending.Ending.TheVariants.{Unlisted, Server}
 use Rattle.world_folder.specs.Fault.{Files, AreRead, Explains, refusal_of}
+use Rattle.world_folder.specs.declared.exit.Statuses.{Statuses}
+use Rattle.world_folder.specs.declared.exit.Statuses.TheVariants.{Plain, Detailed}
+use Rattle.world_folder.specs.declared.lost.OnLoss.{OnLoss}
 use Rattle.world_folder.specs.declared.words_text.BadWords.TheVariants as bad
 use Rattle.world_folder.specs.declared.unfinished.Why.{Why}
 use Rattle.world_folder.specs.declared.unfinished.Why.TheVariants as why
@@ -32,22 +35,33 @@ IsShortage error =
     ⊎ ((error_kind error ≡ kind.StorageFull) ⊎ ((error_kind error ≡ kind.QuotaExceeded)
     ⊎ ((error_kind error ≡ kind.FileTooLarge) ⊎ (error_kind error ≡ kind.WriteZero))))
 
+-- the exit status of a fault by a shortage
+abbrev pub shortage_status : Statuses → ℕ
+shortage_status Plain = 1
+shortage_status Detailed = 13
+
+-- the exit status of a server whose listener failed
+abbrev pub listener_status : Statuses → ℕ
+listener_status Plain = 1
+listener_status Detailed = 10
+
 -- the exit status of a fault by an error of the system
-abbrev pub IsStatusOfError : Error → (status : ℕ) → Type 0
-IsStatusOfError error status = (IsShortage error → status ≡ 13) × (¬ IsShortage error → status ≡ 1)
+abbrev pub IsStatusOfError : Statuses → Error → (status : ℕ) → Type 0
+IsStatusOfError statuses error status =
+    (IsShortage error → status ≡ shortage_status statuses) × (¬ IsShortage error → status ≡ 1)
 
 -- the exit status of a fault by a refusal
-abbrev pub IsStatusOfRefusal : Refusal → (status : ℕ) → Type 0
-IsStatusOfRefusal refusal status =
-    (refusal ≡ NoMemory → status ≡ 13) × (refusal ≢ NoMemory → status ≡ 1)
+abbrev pub IsStatusOfRefusal : Statuses → Refusal → (status : ℕ) → Type 0
+IsStatusOfRefusal statuses refusal status =
+    (refusal ≡ NoMemory → status ≡ shortage_status statuses) × (refusal ≢ NoMemory → status ≡ 1)
 
 -- the exit status for the end of a server
-abbrev pub IsStatusOfServer : ServerEnding → (status : ℕ) → Type 0
-IsStatusOfServer (NoPort port) status = IsStatusOfError port.error status
-IsStatusOfServer NoThread status = status ≡ 13
-IsStatusOfServer ListenerFailed status = status ≡ 10
-IsStatusOfServer ImagesDown status = status ≡ 11
-IsStatusOfServer LogDown status = status ≡ 12
+abbrev pub IsStatusOfServer : Statuses → ServerEnding → (status : ℕ) → Type 0
+IsStatusOfServer statuses (NoPort port) status = IsStatusOfError statuses port.error status
+IsStatusOfServer statuses NoThread status = status ≡ shortage_status statuses
+IsStatusOfServer statuses ListenerFailed status = status ≡ listener_status statuses
+IsStatusOfServer statuses ImagesDown status = status ≡ 11
+IsStatusOfServer statuses LogDown status = status ≡ 12
 
 -- the error of the system for which a world wasn't made
 abbrev pub error_of_why : Why → Option Error
@@ -55,23 +69,25 @@ error_of_why why.NoMemory = None
 error_of_why (why.File file) = Some file.error
 
 -- the exit status if a world wasn't made
-abbrev pub IsStatusOfUnfinished : Why → (status : ℕ) → Type 0
-IsStatusOfUnfinished why.NoMemory status = status ≡ 13
-IsStatusOfUnfinished (why.File file) status = IsStatusOfError file.error status
+abbrev pub IsStatusOfUnfinished : Statuses → Why → (status : ℕ) → Type 0
+IsStatusOfUnfinished statuses why.NoMemory status = status ≡ shortage_status statuses
+IsStatusOfUnfinished statuses (why.File file) status = IsStatusOfError statuses file.error status
 
 -- the exit status of each way to end
-abbrev pub IsStatusOf : Ending → (status : ℕ) → Type 0
-IsStatusOf Ran status = status ≡ 0
-IsStatusOf HelpPrinted status = status ≡ 0
-IsStatusOf Mistaken status = status ≡ 2
-IsStatusOf (Fault refusal) status = IsStatusOfRefusal refusal status
-IsStatusOf (Unreadable file) status = IsStatusOfError file.error status
-IsStatusOf (NoWorld fault) status = IsStatusOfRefusal (refusal_of fault) status
-IsStatusOf (Unfinished unfinished) status = IsStatusOfUnfinished unfinished.why status
-IsStatusOf (Unlisted file) status =
-    (file.why ≡ bad.NoMemory → status ≡ 13) × (file.why ≢ bad.NoMemory → status ≡ 1)
-IsStatusOf (Server ending) status = IsStatusOfServer ending status
-IsStatusOf other status = status ≡ 1
+abbrev pub IsStatusOf : Statuses → Ending → (status : ℕ) → Type 0
+IsStatusOf statuses Ran status = status ≡ 0
+IsStatusOf statuses HelpPrinted status = status ≡ 0
+IsStatusOf statuses Mistaken status = status ≡ 2
+IsStatusOf statuses (Fault refusal) status = IsStatusOfRefusal statuses refusal status
+IsStatusOf statuses (Unreadable file) status = IsStatusOfError statuses file.error status
+IsStatusOf statuses (NoWorld fault) status = IsStatusOfRefusal statuses (refusal_of fault) status
+IsStatusOf statuses (Unfinished unfinished) status =
+    IsStatusOfUnfinished statuses unfinished.why status
+IsStatusOf statuses (Unlisted file) status =
+    (file.why ≡ bad.NoMemory → status ≡ shortage_status statuses)
+    × (file.why ≢ bad.NoMemory → status ≡ 1)
+IsStatusOf statuses (Server ending) status = IsStatusOfServer statuses ending status
+IsStatusOf statuses other status = status ≡ 1
 
 -- it is printed as a fault, with status 1 or 13
 abbrev pub IsFault : Ending → Type 0
@@ -112,8 +128,8 @@ ReportsOfFirst folder files ending =
     (λ error. ReportsOf folder (name_of files.image_a.file) error ending)
 
 -- the ending says why no world was found in the four files of a folder, which were read so
-abbrev pub ReportsWhy : (folder : List ℕ)
+abbrev pub ReportsWhy : OnLoss → (folder : List ℕ)
     → FourFiles (Named (Result (Vec ℕ Global) Error)) → Ending → Type 0
-ReportsWhy folder files (NoWorld fault) =
-    (bytes : Files) × AreRead files bytes × Explains bytes fault
-ReportsWhy folder files ending = ReportsOfFirst folder files ending
+ReportsWhy on_loss folder files (NoWorld fault) =
+    (bytes : Files) × AreRead files bytes × Explains on_loss bytes fault
+ReportsWhy on_loss folder files ending = ReportsOfFirst folder files ending

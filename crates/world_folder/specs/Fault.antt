@@ -1,5 +1,5 @@
 -- The reasons why four files hold no world.
-use Rattle.std.specs.Prelude.{◌≡◌, ◌↔◌, ℕ, true, ◌||◌, IsTrue, Result, Ok, Err, Some, None, Vec}
+use Rattle.std.specs.Prelude.{◌≡◌, ◌↔◌, ℕ, true, ◌||◌, IsTrue, Result, Ok, Err, Option, Some, Vec}
 use Rattle.std.specs.declared.alloc.Global.{Global}
 use Rattle.world_actions.specs.declared.refusal.Refusal.{Refusal}
 use Rattle.world_actions.specs.declared.refusal.Refusal.TheVariants as refusal
@@ -15,7 +15,10 @@ use Rattle.world_folder.specs.declared.fault.Fault.{Fault}
 use Rattle.world_folder.specs.declared.fault.Fault.TheVariants.{NoMemory, NoImage, Images, Segments}
 use Rattle.world_folder.specs.declared.fault.Fault.TheVariants.{Replay, Lost}
 use Rattle.world_folder.specs.declared.lost.Lost.TheVariants.{Image, Log, Gap}
-use Rattle.world_folder.specs.Lost.{lost_of}
+use Rattle.world_folder.specs.Lost.{judgement, lost_of}
+use Rattle.world_folder.specs.declared.lost.Finding.{Finding}
+use Rattle.world_folder.specs.declared.lost.OnLoss.{OnLoss}
+use Rattle.world_folder.specs.declared.lost.OnLoss.TheVariants.{Refuse}
 
 -- the bytes of four files
 abbrev pub Files : Type 0
@@ -42,11 +45,11 @@ refusal_of (Lost (Image slot)) = refusal.BadImage
 refusal_of (Lost (Log slot)) = refusal.BadLog
 refusal_of (Lost (Gap slot)) = refusal.BadLog
 
--- nothing was lost of four files in which recovery finds this
-abbrev pub IsWhole : Files → Recovered → Type 0
-IsWhole files found =
-    lost_of found.tick found.from files.image_a.items files.image_b.items
-    files.log_a.items files.log_b.items ≡ None
+-- the files in which recovery finds this aren't refused, and this is named of them
+abbrev pub AreJudged : OnLoss → Files → Recovered → Option Finding → Type 0
+AreJudged on_loss files found named =
+    judgement on_loss found.tick found.from files.image_a.items files.image_b.items
+    files.log_a.items files.log_b.items ≡ Ok named
 
 -- recovery refuses the four files with this
 abbrev pub IsRefused : Files → Refusal → Type 0
@@ -54,24 +57,25 @@ IsRefused files refused =
     Recovers files.image_a.items files.image_b.items files.log_a.items
     files.log_b.items (Err refused)
 
--- a fault is true of the four files; NoMemory says nothing of them
-abbrev pub Explains : Files → Fault → Type 0
-Explains files NoMemory = Unit {0}
-Explains files NoImage = IsRefused files refusal.NoImage
-Explains files (Images damaged) =
+-- A fault is true of the four files, of which a loss is refused or isn't. NoMemory says nothing
+-- of them.
+abbrev pub Explains : OnLoss → Files → Fault → Type 0
+Explains on_loss files NoMemory = Unit {0}
+Explains on_loss files NoImage = IsRefused files refusal.NoImage
+Explains on_loss files (Images damaged) =
     IsRefused files refusal.BadImage
     × (damaged.a ≡ is_bad_image (image_of files.image_a.items))
     × (damaged.b ≡ is_bad_image (image_of files.image_b.items))
-Explains files (Segments damaged) =
+Explains on_loss files (Segments damaged) =
     IsRefused files refusal.BadLog
     × (IsTrue damaged.a ↔ IsSegment files.log_a.items MalformedSegment)
     × (IsTrue damaged.b ↔ IsSegment files.log_b.items MalformedSegment)
     × (damaged.a || damaged.b ≡ true)
-Explains files Replay =
+Explains on_loss files Replay =
     IsRefused files refusal.BadLog
     × ¬ IsSegment files.log_a.items MalformedSegment
     × ¬ IsSegment files.log_b.items MalformedSegment
-Explains files (Lost lost) =
-    (found : Recovered) × Stands files found
+Explains on_loss files (Lost lost) =
+    (on_loss ≡ Refuse) × (found : Recovered) × Stands files found
     × (lost_of found.tick found.from files.image_a.items files.image_b.items files.log_a.items
     files.log_b.items ≡ Some lost)

@@ -1,6 +1,7 @@
--- Files of which one was lost, so that ticks that were answered are in none of them.
+-- Files that look as if one of them was lost, so that ticks that were answered are in none of them.
 use Rattle.std.specs.Prelude.{◌≡◌, ℕ, List, [], ◌∷◌, Bool, false, ◌&&◌, ◌==◌, nat_le, nat_lt}
 use Rattle.std.specs.Prelude.{length, take, get_or, Option, Some, None, if◌then◌else◌}
+use Rattle.std.specs.Prelude.{Result, Ok, Err, option_map}
 use Rattle.file_format.specs.declared.gate.TheConstants.{OPEN_GATE}
 use Rattle.file_format.specs.declared.slot.Slot.{Slot}
 use Rattle.file_format.specs.declared.slot.Slot.TheVariants.{A, B}
@@ -10,6 +11,10 @@ use Rattle.disk_model.specs.declared.four_files.FourFiles.{FourFiles}
 use Rattle.world_folder.specs.declared.look.TheConstants.{SEGMENT_HEAD}
 use Rattle.world_folder.specs.declared.lost.Lost.{Lost}
 use Rattle.world_folder.specs.declared.lost.Lost.TheVariants.{Image, Log, Gap}
+use Rattle.world_folder.specs.declared.lost.Finding.{Finding}
+use Rattle.world_folder.specs.declared.lost.Finding.TheVariants as finding
+use Rattle.world_folder.specs.declared.lost.OnLoss.{OnLoss}
+use Rattle.world_folder.specs.declared.lost.OnLoss.TheVariants.{Warn, Refuse}
 
 -- an empty image beside one of a tick above 0
 abbrev pub empty_image : Slot → (from : ℕ) → List ℕ → Option Lost
@@ -27,10 +32,11 @@ begins_after tick log =
     nat_le SEGMENT_HEAD (length log) && (get_or log 0 0 == OPEN_GATE)
     && is_above tick (marked_in log)
 
--- a log that is empty although a tick above 0 is recovered, or that begins after the recovered tick
-abbrev pub lost_log : Slot → (tick : ℕ) → List ℕ → Option Lost
-lost_log slot tick [] = if nat_lt 0 tick then Some (Log slot) else None
-lost_log slot tick (gate ∷ rest) = if begins_after tick (gate ∷ rest) then Some (Gap slot) else None
+-- a log that is empty beside an image of a tick above 0, or that begins after the recovered tick
+abbrev pub lost_log : Slot → (tick from : ℕ) → List ℕ → Option Lost
+lost_log slot tick from [] = if nat_lt 0 from then Some (Log slot) else None
+lost_log slot tick from (gate ∷ rest) =
+    if begins_after tick (gate ∷ rest) then Some (Gap slot) else None
 
 -- the first of two findings
 abbrev pub or_else : Option Lost → Option Lost → Option Lost
@@ -41,14 +47,7 @@ or_else None other = other
 abbrev pub lost_of : (tick from : ℕ) → (image_a image_b log_a log_b : List ℕ) → Option Lost
 lost_of tick from image_a image_b log_a log_b =
     or_else (empty_image A from image_a) (or_else (empty_image B from image_b)
-    (or_else (lost_log A tick log_a) (lost_log B tick log_b)))
-
--- nothing was lost of these files, by their heads
-abbrev pub NothingLost : {D : Type 0} → (file : D → List ℕ) → (tick from : ℕ) → FourFiles D → Type 0
-NothingLost file tick from files =
-    lost_of tick from (take SEGMENT_HEAD (file files.image_a))
-    (take SEGMENT_HEAD (file files.image_b))
-    (take SEGMENT_HEAD (file files.log_a)) (take SEGMENT_HEAD (file files.log_b)) ≡ None
+    (or_else (lost_log A tick from log_a) (lost_log B tick from log_b)))
 
 -- ---- files that a crash may leave, and a loss too
 
@@ -58,14 +57,39 @@ first_empty [] log_b = Some A
 first_empty (gate ∷ rest) [] = Some B
 first_empty (gate ∷ rest) (other ∷ more) = None
 
--- An empty log of a world that is recovered at tick 0. A start that a crash cut off leaves it. So
--- does the loss of a log that had the world's first ticks.
-abbrev pub doubtful_log : (tick : ℕ) → (log_a log_b : List ℕ) → Option Slot
-doubtful_log tick log_a log_b = if nat_lt 0 tick then None else first_empty log_a log_b
+-- An empty log beside an image of tick 0. A `create` that was cut off leaves it. So does the loss
+-- of a log that had the world's first ticks.
+abbrev pub doubtful_log : (from : ℕ) → (log_a log_b : List ℕ) → Option Slot
+doubtful_log from log_a log_b = if nat_lt 0 from then None else first_empty log_a log_b
 
--- the same by the heads of the files
-abbrev pub DoubtfulIn : {D : Type 0} → (file : D → List ℕ) → (tick : ℕ)
-    → FourFiles D → Option Slot → Type 0
-DoubtfulIn file tick files found =
-    found ≡ doubtful_log tick (take SEGMENT_HEAD (file files.log_a))
-    (take SEGMENT_HEAD (file files.log_b))
+-- ---- what is done about it
+
+-- what is named of four files, or what they are refused for: a loss is named or refused, and a
+-- log that may have been lost is named only if losses are refused
+abbrev pub judged : OnLoss → Option Lost → (doubtful : Option Slot) → Result (Option Finding) Lost
+judged Warn None doubtful = Ok None
+judged Warn (Some lost) doubtful = Ok (Some (finding.Lost lost))
+judged Refuse None doubtful = Ok (option_map finding.Doubtful doubtful)
+judged Refuse (Some lost) doubtful = Err lost
+
+abbrev pub judgement : OnLoss → (tick from : ℕ) → (image_a image_b log_a log_b : List ℕ)
+    → Result (Option Finding) Lost
+judgement on_loss tick from image_a image_b log_a log_b =
+    judged on_loss (lost_of tick from image_a image_b log_a log_b) (doubtful_log from log_a log_b)
+
+-- ---- by the heads of four files
+
+module _ {D : Type 0} (file : D → List ℕ) where
+  -- this was lost
+  abbrev pub lost_in : (tick from : ℕ) → FourFiles D → Option Lost
+  lost_in tick from files =
+      lost_of tick from (take SEGMENT_HEAD (file files.image_a))
+      (take SEGMENT_HEAD (file files.image_b))
+      (take SEGMENT_HEAD (file files.log_a)) (take SEGMENT_HEAD (file files.log_b))
+
+  -- the files aren't refused, and this is named of them
+  abbrev pub JudgedIn : OnLoss → (tick from : ℕ) → FourFiles D → Option Finding → Type 0
+  JudgedIn on_loss tick from files found =
+      judgement on_loss tick from (take SEGMENT_HEAD (file files.image_a))
+      (take SEGMENT_HEAD (file files.image_b)) (take SEGMENT_HEAD (file files.log_a))
+      (take SEGMENT_HEAD (file files.log_b)) ≡ Ok found

@@ -11,6 +11,8 @@ use Rattle.world_folder.specs.declared.fault.Fault.{Fault}
 use Rattle.world_folder.specs.declared.fault.Fault.TheVariants as fault
 use Rattle.world_folder.specs.declared.lost.Lost.{Lost}
 use Rattle.world_folder.specs.declared.lost.Lost.TheVariants as lost
+use Rattle.world_folder.specs.declared.lost.Finding.{Finding}
+use Rattle.world_folder.specs.declared.lost.Finding.TheVariants as finding
 use Rattle.world_folder.specs.declared.words_text.BadWords.{BadWords}
 use Rattle.world_folder.specs.declared.words_text.BadWords.TheVariants as bad
 use Rattle.world_folder.specs.declared.world_file.TheConstants.{IMAGE_A, IMAGE_B, LOG_A, LOG_B}
@@ -63,13 +65,14 @@ reason_text (fault.Segments damaged) = damaged_names damaged LOG_A.now LOG_B.now
 reason_text fault.Replay = codes "an action of the log is refused in replay"
 reason_text (fault.Lost lost) = lost_text lost
 
--- an empty log of a world at tick 0
-abbrev pub doubtful_text : Slot → List ℕ
-doubtful_text slot =
+-- what is named of four files
+abbrev pub finding_text : Finding → List ℕ
+finding_text (finding.Lost lost) = lost_text lost
+finding_text (finding.Doubtful slot) =
     log_name slot ++ codes " is empty: if this world was played, its ticks are lost"
 
-abbrev pub doubtful_line : Slot → List ℕ
-doubtful_line slot = codes "worldd: " ++ doubtful_text slot
+abbrev pub finding_line : Finding → List ℕ
+finding_line found = codes "worldd: " ++ finding_text found
 
 -- ---- a fault
 

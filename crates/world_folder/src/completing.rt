@@ -1,27 +1,22 @@
 //! The four files in which a world is to be made, of those that are there and of new ones.
 ghost use Rattle.std.specs.Prelude.{◌≡◌, ◌↔◌, ◌≤◌, IsTrue, Ok, None, IfOk, IfErr, OnOk, IfSome};
 ghost use Rattle.std.specs.Prelude.{IfNone};
-ghost use Rattle.disk_model.specs.Disk.{Only};
 ghost use Rattle.disk_model.specs.FourFiles.{EachFile, KeepsFile};
-ghost use Rattle.file_format.specs.Gate.{HasClosedGate};
 ghost use Rattle.world_folder.specs.Completing.{IsOccupied, IsOpenFile, IsOpenThere, IsFirstThere};
 ghost use Rattle.world_folder.specs.Completing.{NoneIsOpen, ReportsOpen, KeepsThere, IsReady};
 ghost use Rattle.world_folder.specs.Completing.{AreReady, AreCompleted, with_made};
 ghost use Rattle.world_folder.specs.Ending.{IsFault, NamesFile};
-ghost use Rattle.world_folder.specs.History.{with_lock};
 
 use crate::ending::{Ending, Occupied};
 use crate::folders::Folder;
 use crate::look::{IMAGE_HEAD, SEGMENT_HEAD};
 use crate::opening::{opened, path_of};
 use crate::own_file::take_own;
-use crate::reading::answered;
 use crate::unfinished::MadeFiles;
 use crate::world_file::{IMAGE_A, IMAGE_B, LOG_A, LOG_B, WorldFile};
 use disk_model::{Disk, FourFiles};
-use file_format::{CLOSED_GATE, OPEN_GATE};
+use file_format::OPEN_GATE;
 use std::alloc::Global;
-use std::io;
 use world_actions::Refusal;
 
 // Looks at the files of a folder that are there. If one is open, no world is made there, and the
@@ -171,13 +166,12 @@ fn there_or_made<F: Folder>(
 {
     match present.take() {
         Some(disk) => Ok(disk),
-        None => make_closed(alloc, folder, path, file, made),
+        None => make_empty(alloc, folder, path, file, made),
     }
 }
 
-// Makes a file that only its owner may read and write, and locks it if it is image.a. It is a
-// closed gate: an empty file of a world that was made is one that was lost.
-fn make_closed<F: Folder>(
+// Makes an empty file that only its owner may read and write, and locks it if it is image.a.
+fn make_empty<F: Folder>(
     alloc: Global,
     folder: &mut F,
     path: &str,
@@ -195,35 +189,8 @@ fn make_closed<F: Folder>(
     let handle = folder.make(file);
     let handle = opened(alloc, path, file.name(), handle)?;
     made.note(file);
-    let closed = take_closed(folder, file, handle);
-    opened(alloc, path, file.name(), closed)
-}
-
-// Takes a new file, of which it makes a closed gate.
-fn take_closed<F: Folder>(folder: &mut F, file: WorldFile, handle: F::Handle) -> io::Result<F::File>
-    ensures locked { IsTrue F.honest
-        → OnOk result
-        (F.history folder.new ≡ with_lock file (F.entry_of handle) (F.history folder.old)) }
-    ensures closed { IsTrue F.File.honest
-        → IfOk result (λ disk. HasClosedGate (F.File.content disk)) }
-    ensures synced { IsTrue F.File.honest
-        → IfOk result (λ disk. Only (F.File.content disk) (F.File.may_leave disk)) }
-{
-    let mut disk = take_own(folder, file, handle)?;
-    let closed = write_closed_gate(&mut disk);
-    answered(&mut disk, closed)?;
-    Ok(disk)
-}
-
-// Writes a closed gate over the first byte of a file, and makes it durable.
-fn write_closed_gate<D: Disk>(disk: &mut D) -> Result<(), Refusal>
-    ensures closed { IsTrue D.honest → OnOk result (HasClosedGate (D.content disk.new)) }
-    ensures synced { IsTrue D.honest
-        → OnOk result (Only (D.content disk.new) (D.may_leave disk.new)) }
-    ensures refused { IfErr result (λ refusal. refusal ≡ Refusal.Device) }
-{
-    disk.write_at(0, &[CLOSED_GATE])?;
-    disk.sync()
+    let disk = take_own(folder, file, handle);
+    opened(alloc, path, file.name(), disk)
 }
 
 /// The four files in which a world is to be made: those that are there, and new ones. If one that

@@ -1,22 +1,17 @@
-ghost use Rattle.std.specs.Prelude.{◌≡◌, Some, true, false};
+ghost use Rattle.std.specs.Prelude.{◌≡◌, Some};
 ghost use Rattle.std.specs.Path.{path_buf_bytes};
-ghost use Rattle.std.specs.Process.{exit_status};
 ghost use Rattle.world_folder.specs.Completing.{IsOccupied};
-ghost use Rattle.world_folder.specs.Ending.{IsFault, IsStatusOfError, IsStatusOfRefusal};
-ghost use Rattle.world_folder.specs.Ending.{IsStatusOfServer, IsStatusOfUnfinished};
-ghost use Rattle.world_folder.specs.Texts.{fault_text, filled_text, unlisted_text};
+ghost use Rattle.world_folder.specs.Ending.{IsFault};
+ghost use Rattle.world_folder.specs.Texts.{filled_text, unlisted_text};
 
-use crate::escaped::Escaped;
 use crate::fault::Fault;
 use crate::opening::Unreadable;
-use crate::system_error::{is_shortage, refusal_of};
+use crate::system_error::refusal_of;
 use crate::unfinished::Unfinished;
 use crate::words_text::BadWords;
 use std::alloc::AllocError;
-use std::fmt::{self, Display};
-use std::io;
 use std::path::PathBuf;
-use std::process::{ExitCode, Termination};
+use std::{fmt, io};
 use world_actions::Refusal;
 
 /// How the program ends.
@@ -216,108 +211,5 @@ pub fn unprinted(error: io::Error) -> Ending
             error,
         }),
         refusal => Ending::Fault(refusal),
-    }
-}
-
-impl Termination for Ending {
-    ghost use Rattle.std.specs.Process.{exit_status};
-    ghost use Rattle.world_folder.specs.Ending.{IsStatusOf};
-
-    /// Prints a fault by its code and in words, and returns the exit status.
-    fn report<R: Eprint>(self, rt: &R) -> ExitCode
-        ensures { IsStatusOf self (exit_status result) }
-    {
-        match self {
-            Ending::Ran | Ending::HelpPrinted => ExitCode::SUCCESS,
-            Ending::Mistaken => ExitCode::from(2),
-            Ending::Fault(refusal) => report_fault(rt, refusal, refusal),
-            Ending::Unreadable(file) => report_error(rt, file.error, file),
-            Ending::NoWorld(fault) => report_fault(rt, fault.refusal(), fault),
-            Ending::Occupied(file) => report_fault(rt, Refusal::NotEmpty, file),
-            Ending::Unfinished(unfinished) => report_unfinished(rt, unfinished),
-            Ending::Filled(folder) => report_fault(rt, Refusal::NotEmpty, folder),
-            Ending::Unlisted(file) => report_fault(rt, file.why.refusal(), file),
-            Ending::Stream(failure) => report_stream(rt, failure),
-            Ending::Server(ending) => report_server(rt, ending),
-        }
-    }
-}
-
-// Prints a server's fault, and returns the exit status.
-fn report_server<R: Eprint>(rt: &R, ending: ServerEnding) -> ExitCode
-    ensures { IsStatusOfServer ending (exit_status result) }
-{
-    match ending {
-        ServerEnding::NoPort(port) => report_error(rt, port.error, port),
-        ServerEnding::NoThread => report_fault(rt, Refusal::NoMemory, NO_THREAD),
-        ServerEnding::ListenerFailed => ExitCode::from(10),
-        ServerEnding::ImagesDown => ExitCode::from(11),
-        ServerEnding::LogDown => ExitCode::from(12),
-    }
-}
-
-const NO_THREAD: &str = "there is no thread for the server";
-
-// Prints why a world wasn't made, and returns the exit status.
-fn report_unfinished<R: Eprint>(rt: &R, unfinished: Unfinished) -> ExitCode
-    ensures { IsStatusOfUnfinished unfinished.why (exit_status result) }
-{
-    match unfinished.why.error() {
-        Some(error) => report_error(rt, error, unfinished),
-        None => report_fault(rt, Refusal::NoMemory, unfinished),
-    }
-}
-
-// Prints that a stream failed, and returns the exit status.
-fn report_stream<R: Eprint>(rt: &R, failure: StreamFailure) -> ExitCode
-    ensures { exit_status result ≡ 1 }
-{
-    print_refusal(rt, refusal_of(&failure.error), failure);
-    ExitCode::from(1)
-}
-
-// Prints a fault by the code of its refusal, and in these words. It returns the exit status.
-fn report_fault<R: Eprint, D: Display + Drop>(rt: &R, refusal: Refusal, words: D) -> ExitCode
-    ensures { IsStatusOfRefusal refusal (exit_status result) }
-{
-    print_refusal(rt, refusal, words);
-    fault_status(refusal == Refusal::NoMemory)
-}
-
-// Prints an error of the system as a fault, in these words. It returns the exit status.
-fn report_error<R: Eprint, D: Display + Drop>(rt: &R, error: io::Error, words: D) -> ExitCode
-    ensures { IsStatusOfError error (exit_status result) }
-{
-    print_refusal(rt, refusal_of(&error), words);
-    fault_status(is_shortage(&error))
-}
-
-// Prints a code and the reason.
-fn print_refusal<R: Eprint, D: Display + Drop>(rt: &R, refusal: Refusal, words: D) {
-    let _ = rt.eprintln(FaultLine(refusal));
-    let _ = eprintln!(rt; "worldd: {}", Escaped(words));
-}
-
-// The line on a fault, by the code of its refusal.
-#[derive(Clone, Copy)]
-struct FaultLine(Refusal);
-
-impl fmt::Display for FaultLine {
-    ghost output = { λ line. Some (fault_text line.0) };
-
-    fn fmt<W: fmt::Write>(&self, f: &mut fmt::Formatter<W>) -> fmt::Result {
-        write!(f, "fault {}", self.0.code())
-    }
-}
-
-// The exit status of a fault. A shortage passes, so the same command is worth another try.
-fn fault_status(is_shortage: bool) -> ExitCode
-    ensures shortage { is_shortage ≡ true → exit_status result ≡ 13 }
-    ensures other { is_shortage ≡ false → exit_status result ≡ 1 }
-{
-    if is_shortage {
-        ExitCode::from(13)
-    } else {
-        ExitCode::from(1)
     }
 }

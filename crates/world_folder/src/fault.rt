@@ -2,10 +2,11 @@ ghost use Rattle.std.specs.Prelude.{◌≡◌, ◌⊎◌, ◌↔◌, ◌++◌, S
 ghost use Rattle.image_files.specs.Image.{image_of};
 ghost use Rattle.action_log.specs.Segment.{MalformedSegment, IsSegment};
 ghost use Rattle.recovery.specs.Recovery.{Recovers, is_bad_image};
-ghost use Rattle.world_folder.specs.Fault.{Stands, IsWhole, Explains};
+ghost use Rattle.world_folder.specs.Fault.{Stands, AreJudged, Explains};
+ghost use Rattle.world_folder.specs.declared.lost.OnLoss.{OnLoss as Asked};
 ghost use Rattle.world_folder.specs.Texts.{damaged_names, reason_text};
 
-use crate::lost::{Lost, lost_of};
+use crate::lost::{Finding, Lost, OnLoss, judge};
 use crate::world_file::{IMAGE_A, IMAGE_B, LOG_A, LOG_B};
 use action_log::judge_log;
 use disk_model::FourFiles;
@@ -108,24 +109,32 @@ fn names_of(
     }
 }
 
-/// The world that four files hold, or the reason why they hold none. A world that lacks ticks which
-/// were answered is none.
-pub fn stands_in(alloc: Global, files: &FourFiles<Vec<u8>>) -> Result<Recovered, Fault>
-    ensures recovered { IfOk result (Stands files.now) }
-    ensures whole { IfOk result (λ found. IsWhole files.now found) }
-    ensures fault { IfErr result (Explains files.now) }
+/// A world that four files hold, and the finding on them that is to be named.
+#[derive(Drop)]
+pub struct Found {
+    pub world: Recovered,
+    pub finding: Option<Finding>,
+}
+
+/// The world that four files hold, or the reason why they hold none. If losses are refused, a world
+/// that lacks ticks which were answered is none.
+pub fn stands_in(alloc: Global, files: &FourFiles<Vec<u8>>, on_loss: OnLoss) -> Result<Found, Fault>
+    ensures recovered { IfOk result (λ found. Stands files.now found.world) }
+    ensures judged { IfOk result (λ found.
+        AreJudged on_loss files.now found.world found.finding) }
+    ensures fault { IfErr result (Explains on_loss files.now) }
 {
-    let found = found_in(alloc, files)?;
-    match lost_of(found.tick, found.from, files) {
-        Some(lost) => Err(Fault::Lost(lost)),
-        None => Ok(found),
+    let world = found_in(alloc, files)?;
+    match judge(on_loss, world.tick, world.from, files) {
+        Ok(finding) => Ok(Found { world, finding }),
+        Err(lost) => Err(Fault::Lost(lost)),
     }
 }
 
 // What recovery finds in four files, or the reason why it finds no world.
 fn found_in(alloc: Global, files: &FourFiles<Vec<u8>>) -> Result<Recovered, Fault>
     ensures recovered { IfOk result (Stands files.now) }
-    ensures fault { IfErr result (Explains files.now) }
+    ensures fault { IfErr result (λ fault. (asked : Asked) → Explains asked files.now fault) }
 {
     match recover(
         alloc,
@@ -144,7 +153,7 @@ fn fault_of(alloc: Global, files: &FourFiles<Vec<u8>>, refusal: Refusal) -> Faul
     requires { (refusal ≡ Refusal.NoMemory)
         ⊎ Recovers files.now.image_a.items files.now.image_b.items
         files.now.log_a.items files.now.log_b.items (Err refusal) }
-    ensures { Explains files.now result }
+    ensures { (asked : Asked) → Explains asked files.now result }
 {
     match refusal {
         Refusal::NoImage => Fault::NoImage,
@@ -161,7 +170,7 @@ fn fault_of(alloc: Global, files: &FourFiles<Vec<u8>>, refusal: Refusal) -> Faul
 fn fault_of_log(files: &FourFiles<Vec<u8>>) -> Fault
     requires { Recovers files.now.image_a.items files.now.image_b.items
         files.now.log_a.items files.now.log_b.items (Err Refusal.BadLog) }
-    ensures { Explains files.now result }
+    ensures { (asked : Asked) → Explains asked files.now result }
 {
     let a = is_bad_segment(&files.log_a);
     let b = is_bad_segment(&files.log_b);

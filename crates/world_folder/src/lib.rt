@@ -6,11 +6,13 @@
 //! system, or in memory. An `Ending` says what went wrong, and names the file.
 #![tactic(auto)]
 
+mod checked;
 mod completing;
 mod creating;
 mod ending;
 mod entry;
 mod escaped;
+mod exit;
 mod fault;
 mod folders;
 mod forward;
@@ -29,21 +31,22 @@ mod reading;
 mod system_error;
 mod system_folder;
 mod unfinished;
-mod whole;
 mod words_text;
 mod world_file;
 
+pub use checked::{Checked, NotRecovered, recover_checked};
 pub use creating::{create, create_listed, create_of_words, create_zeros};
 pub use ending::{Ending, Filled, NoPort, Occupied, ServerEnding, Stream, StreamFailure, Unlisted};
 pub use entry::{Entry, FileKind, Identity};
 pub use escaped::Escaped;
-pub use fault::{Damaged, Fault, stands_in};
+pub use exit::{Exit, Statuses};
+pub use fault::{Damaged, Fault, Found, stands_in};
 pub use folders::{Folder, Reading, WorldDisk};
 pub use found::{FoundReport, WorldReport};
 pub use laws::{copies_are_of_a_moment, sound_files_have_no_gap};
 pub use locks::{LockState, lock};
 pub use look::{IMAGE_HEAD, Look, SEGMENT_HEAD, look_at, read_head};
-pub use lost::{Doubtful, Lost, doubtful_log};
+pub use lost::{Finding, Lost, OnLoss};
 pub use making::{Made, make_in, make_of_words};
 pub use model_folder::{ModelDisk, ModelFolder, ModelHandle};
 pub use noted::Noted;
@@ -54,6 +57,5 @@ pub use reading::{all_read, answered, read_folder, read_whole};
 pub use system_error::Reason;
 pub use system_folder::SystemFolder;
 pub use unfinished::{MadeFiles, Unfinished, Why};
-pub use whole::{NotRecovered, Whole, recover_whole};
 pub use words_text::{BadWords, Listed};
 pub use world_file::{IMAGE_A, IMAGE_B, LOG_A, LOG_B, Named, WorldFile};

@@ -1,9 +1,9 @@
-//! Files of which one was lost or emptied, so that ticks that were answered are in none.
-ghost use Rattle.std.specs.Prelude.{◌≡◌, ◌⊎◌, take, IsTrue, IfOk, IfErr, Some};
+//! Files of which one looks lost or emptied, so that ticks that were answered are in none.
+ghost use Rattle.std.specs.Prelude.{◌≡◌, ◌⊎◌, take, IsTrue, IfOk, IfErr, Some, None};
 ghost use Rattle.disk_model.specs.FourFiles.{EachFile, KeepsFile};
 ghost use Rattle.world_folder.specs.Lost.{begins_after, doubtful_log, empty_image, first_empty};
-ghost use Rattle.world_folder.specs.Lost.{lost_log, lost_of};
-ghost use Rattle.world_folder.specs.Texts.{doubtful_text, lost_text};
+ghost use Rattle.world_folder.specs.Lost.{judgement, lost_log, lost_of};
+ghost use Rattle.world_folder.specs.Texts.{finding_text, lost_text};
 
 use crate::look::{SEGMENT_HEAD, read_head};
 use crate::world_file::{IMAGE_A, IMAGE_B, LOG_A, LOG_B};
@@ -13,12 +13,21 @@ use std::alloc::Global;
 use std::fmt;
 use world_actions::Refusal;
 
+/// The treatment of four files that look as if one of them was lost.
+#[derive(Clone, Copy, Debug, PartialEq, Eq)]
+pub enum OnLoss {
+    /// The loss is named on standard error, and recovery's answer stands.
+    Warn,
+    /// The files are refused. A log that may have been lost is named.
+    Refuse,
+}
+
 /// A finding on four files that no crash leaves after: one of them was lost, emptied or replaced.
 #[derive(Clone, Copy, Debug, PartialEq, Eq)]
 pub enum Lost {
     /// This image is empty, beside one of a tick above 0. By then both were written once.
     Image(Slot),
-    /// This log is empty, and a tick above 0 is recovered. The first start writes both logs,
+    /// This log is empty, beside an image of a tick above 0. The first start writes both logs,
     /// before a tick ends.
     Log(Slot),
     /// This log begins after the tick that is recovered. The ticks up to its
@@ -41,9 +50,58 @@ impl fmt::Display for Lost {
     }
 }
 
-/// What was lost of four files with these bytes, of which this tick is recovered from an image of
-/// the tick `from`.
-pub fn lost_of(tick: u64, from: u64, files: &FourFiles<Vec<u8>>) -> Option<Lost>
+/// A finding on four files, beside the world that is recovered from them.
+#[derive(Clone, Copy, Debug, PartialEq, Eq)]
+pub enum Finding {
+    Lost(Lost),
+    /// This log is empty, beside an image of tick 0. Either its world never had a start, or the log
+    /// was lost with ticks that were answered. The files don't say which.
+    Doubtful(Slot),
+}
+
+impl fmt::Display for Finding {
+    ghost output = { λ finding. Some (finding_text finding) };
+
+    fn fmt<W: fmt::Write>(&self, f: &mut fmt::Formatter<W>) -> fmt::Result {
+        let name = match self {
+            Finding::Lost(lost) => return write!(f, "{lost}"),
+            Finding::Doubtful(Slot::A) => LOG_A,
+            Finding::Doubtful(Slot::B) => LOG_B,
+        };
+        write!(
+            f,
+            "{name} is empty: if this world was played, its ticks are lost"
+        )
+    }
+}
+
+/// Judges four files with these bytes, of which this tick is recovered from an image of the tick
+/// `from`. It returns the finding to be named, or the loss for which they are refused.
+pub fn judge(
+    on_loss: OnLoss,
+    tick: u64,
+    from: u64,
+    files: &FourFiles<Vec<u8>>,
+) -> Result<Option<Finding>, Lost>
+    ensures judged { result ≡ judgement on_loss tick from files.now.image_a.items
+        files.now.image_b.items files.now.log_a.items files.now.log_b.items }
+    ensures whole { on_loss ≡ OnLoss.Refuse → IfOk result (λ _.
+        lost_of tick from files.now.image_a.items files.now.image_b.items
+        files.now.log_a.items files.now.log_b.items ≡ None) }
+    ensures refused { IfErr result (λ lost. (on_loss ≡ OnLoss.Refuse)
+        × (lost_of tick from files.now.image_a.items files.now.image_b.items
+        files.now.log_a.items files.now.log_b.items ≡ Some lost)) }
+{
+    match (on_loss, lost_of(tick, from, files)) {
+        (OnLoss::Warn, None) => Ok(None),
+        (OnLoss::Warn, Some(lost)) => Ok(Some(Finding::Lost(lost))),
+        (OnLoss::Refuse, None) => Ok(doubtful_log(from, files).map(Finding::Doubtful)),
+        (OnLoss::Refuse, Some(lost)) => Err(lost),
+    }
+}
+
+// What was lost of four files with these bytes.
+fn lost_of(tick: u64, from: u64, files: &FourFiles<Vec<u8>>) -> Option<Lost>
     ensures { result ≡ lost_of tick from files.now.image_a.items files.now.image_b.items
         files.now.log_a.items files.now.log_b.items }
 {
@@ -53,9 +111,9 @@ pub fn lost_of(tick: u64, from: u64, files: &FourFiles<Vec<u8>>) -> Option<Lost>
     if let Some(lost) = empty_image(Slot::B, from, &files.image_b) {
         return Some(lost);
     }
-    match lost_log(Slot::A, tick, &files.log_a) {
+    match lost_log(Slot::A, tick, from, &files.log_a) {
         Some(lost) => Some(lost),
-        None => lost_log(Slot::B, tick, &files.log_b),
+        None => lost_log(Slot::B, tick, from, &files.log_b),
     }
 }
 
@@ -69,11 +127,11 @@ fn empty_image(slot: Slot, from: u64, image: &[u8]) -> Option<Lost>
     }
 }
 
-fn lost_log(slot: Slot, tick: u64, log: &[u8]) -> Option<Lost>
-    ensures { result ≡ lost_log slot tick log.now }
+fn lost_log(slot: Slot, tick: u64, from: u64, log: &[u8]) -> Option<Lost>
+    ensures { result ≡ lost_log slot tick from log.now }
 {
     if log.is_empty() {
-        return if tick > 0 {
+        return if from > 0 {
             Some(Lost::Log(slot))
         } else {
             None
@@ -99,31 +157,11 @@ fn begins_after(tick: u64, log: &[u8]) -> bool
     }
 }
 
-/// A log that is empty, of a world that is recovered at tick 0. Either it never had a start, or the
-/// log was lost with ticks that were answered. The files don't say which.
-#[derive(Clone, Copy, Debug, PartialEq, Eq)]
-pub struct Doubtful(pub Slot);
-
-impl fmt::Display for Doubtful {
-    ghost output = { λ doubtful. Some (doubtful_text doubtful.0) };
-
-    fn fmt<W: fmt::Write>(&self, f: &mut fmt::Formatter<W>) -> fmt::Result {
-        let name = match self.0 {
-            Slot::A => LOG_A,
-            Slot::B => LOG_B,
-        };
-        write!(
-            f,
-            "{name} is empty: if this world was played, its ticks are lost"
-        )
-    }
-}
-
-/// The empty log of a world that is recovered at this tick, from files with these bytes.
-pub fn doubtful_log(tick: u64, files: &FourFiles<Vec<u8>>) -> Option<Slot>
-    ensures { result ≡ doubtful_log tick files.now.log_a.items files.now.log_b.items }
+// The empty log beside an image of tick 0, of files with these bytes.
+fn doubtful_log(from: u64, files: &FourFiles<Vec<u8>>) -> Option<Slot>
+    ensures { result ≡ doubtful_log from files.now.log_a.items files.now.log_b.items }
 {
-    if tick > 0 {
+    if from > 0 {
         return None;
     }
     first_empty(&files.log_a, &files.log_b)
@@ -140,7 +178,7 @@ fn first_empty(log_a: &[u8], log_b: &[u8]) -> Option<Slot>
     }
 }
 
-/// Reads as much of each file as `lost_of` looks at. A server reads it before it
+/// Reads as much of each file as `judge` looks at. A server reads it before it
 /// recovers the world.
 pub fn read_heads<D: Disk>(
     alloc: Global,

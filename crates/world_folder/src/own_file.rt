@@ -112,6 +112,8 @@ pub fn take_own<F: Folder>(
         (F.history folder.new ≡ with_lock file (F.entry_of handle) (F.history folder.old)) }
     ensures disk { IsTrue F.honest
         → IfOk result (λ disk. F.identity disk ≡ (F.entry_of handle).identity) }
+    ensures content { IsTrue F.honest → IsTrue F.File.honest
+        → IfOk result (λ disk. F.File.content disk ≡ F.content_of handle) }
     ensures synced { IsTrue F.honest → IsTrue F.File.honest
         → IfOk result (λ disk. Only (F.File.content disk) (F.File.may_leave disk)) }
 {

@@ -1,17 +1,19 @@
 -- A copy of a world in another folder.
-use Rattle.std.specs.Prelude.{◌≡◌, ℕ, nat_lt, if◌then◌else◌, List, ◌∷◌}
+use Rattle.std.specs.Prelude.{◌≡◌, ℕ, nat_lt, if◌then◌else◌, List, [], ◌∷◌}
 use Rattle.disk_model.specs.Disk.{Only}
 use Rattle.disk_model.specs.declared.four_files.FourFiles.{FourFiles}
+use Rattle.file_format.specs.declared.gate.TheConstants.{CLOSED_GATE}
 use Rattle.file_format.specs.declared.slot.Slot.{Slot}
 use Rattle.file_format.specs.declared.slot.Slot.TheVariants.{A, B}
-use Rattle.recovery.specs.declared.recovered.Recovered.{Recovered}
-use Rattle.world_reports.specs.declared.copying.Images.TheVariants.{Newest}
 use Rattle.world_folder.specs.declared.entry.Entry.{Entry}
 use Rattle.world_folder.specs.declared.found.WorldReport.{WorldReport}
 use Rattle.world_folder.specs.declared.world_file.WorldFile.{WorldFile}
 use Rattle.world_folder.specs.declared.world_file.WorldFile.TheVariants.{ImageA, ImageB, LogA, LogB}
-use Rattle.world_reports.specs.Copying.{IsCopied}
-use Rattle.world_folder.specs.Fault.{Files, Stands, IsWhole}
+use Rattle.world_folder.specs.Fault.{Files}
+use Rattle.world_folder.specs.declared.lost.OnLoss.{OnLoss}
+use Rattle.world_reports.specs.Looking.{IsWorldSeen}
+use Rattle.world_reports.specs.Reports.{with_finding}
+use Rattle.world_reports.specs.declared.looking.SeenWorld.{SeenWorld}
 use Rattle.world_folder.specs.History.{Act, Made, FoundEmpty, Printed, Warned, synced}
 use Rattle.world_reports.specs.Texts.{backed_up_text, begun_text}
 use Rattle.world_reports.specs.Verified.{IsVerified}
@@ -19,6 +21,20 @@ use Rattle.world_reports.specs.Verified.{IsVerified}
 -- it is named on standard error how often a copy was begun, if it was begun anew
 abbrev pub with_tries : (tries : ℕ) → List Act → List Act
 with_tries tries acts = if nat_lt 1 tries then Warned (begun_text tries) ∷ acts else acts
+
+-- a closed gate in place of an older image; an empty file stays one
+abbrev pub shut_older : List ℕ → List ℕ
+shut_older [] = []
+shut_older (gate ∷ rest) = CLOSED_GATE ∷ []
+
+-- the files with the older image closed
+abbrev pub IsWithoutOlder : (newest : Slot) → (files copied : Files) → Type 0
+IsWithoutOlder A files copied =
+    (copied.image_a ≡ files.image_a) × (copied.image_b.items ≡ shut_older files.image_b.items)
+    × (copied.log_a ≡ files.log_a) × (copied.log_b ≡ files.log_b)
+IsWithoutOlder B files copied =
+    (copied.image_a.items ≡ shut_older files.image_a.items) × (copied.image_b ≡ files.image_b)
+    × (copied.log_a ≡ files.log_a) × (copied.log_b ≡ files.log_b)
 
 module _ {D : Type 0} (content : D → List ℕ) (leaves : D → List ℕ → Type 0) where
   -- a file was made under its name, and has these bytes, which are durable
@@ -52,22 +68,19 @@ module _ {D : Type 0} (content : D → List ℕ) (leaves : D → List ℕ → Ty
     pub named : after ≡ synced with_images
 
   -- A copy of a world was made in an empty folder, and durable. Its files were read again, and hold
-  -- the world that was read. Only then it was printed.
-  pub record IsBackedUp (made : FourFiles D)
+  -- the world that was read. Only then it was printed, and what is found of a loss was named.
+  pub record IsBackedUp (on_loss : OnLoss) (made : FourFiles D)
       (source_before source_after before after : List Act) : Type 0 where
+    pub world : SeenWorld
     pub copied : Files
-    pub lengths : FourFiles ℕ
-    pub tries : ℕ
-    pub read : Recovered
     pub reported : WorldReport
     pub room : List Act
     pub written : List Act
     pub verified : List Act
-    pub copy : IsCopied Newest copied lengths source_before source_after
-    pub stands : Stands copied read
-    pub whole : IsWhole copied read
+    pub is_seen : IsWorldSeen on_loss world source_before source_after
+    pub without_older : IsWithoutOlder world.found.world.slot world.files copied
     pub is_room : room ≡ FoundEmpty ∷ before
-    pub are_written : AreWritten read.slot copied made room written
-    pub is_verified : IsVerified read reported written verified
-    pub printed : after
-        ≡ Printed (backed_up_text reported.tick reported.from) ∷ with_tries tries verified
+    pub are_written : AreWritten world.found.world.slot copied made room written
+    pub is_verified : IsVerified world.found.world reported written verified
+    pub printed : after ≡ Printed (backed_up_text reported.tick reported.from)
+        ∷ with_tries world.tries (with_finding world.found.finding verified)

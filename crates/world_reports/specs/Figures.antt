@@ -6,7 +6,7 @@ use Rattle.recovery.specs.declared.recovered.Recovered.{Recovered}
 use Rattle.world_reports.specs.declared.figures.Figures.{Figures as FiguresValue}
 use Rattle.world_reports.specs.declared.file_reports.LogReport.{LogReport}
 use Rattle.world_reports.specs.declared.file_reports.LogReport.TheVariants.{Open}
-use Rattle.world_folder.specs.Fault.{Files, Stands}
+use Rattle.world_folder.specs.Fault.{Files}
 use Rattle.world_reports.specs.FileReports.{IsLogReport}
 
 -- the base of an open segment, and how many ticks it has
@@ -22,11 +22,9 @@ current_segment (Some (s, m)) None = Some (A, m)
 current_segment None (Some (t, n)) = Some (B, n)
 current_segment None None = None
 
--- these are the figures of four files: those of the world that recovery finds, and the segment that
--- the log continues in
-pub record AreFigures (files : Files) (figures : FiguresValue) : Type 0 where
-  pub found : Recovered
-  pub stands : Stands files found
+-- these are the figures of a world that was found in four files, and of the segment that the log
+-- continues in
+pub record AreFigures (files : Files) (found : Recovered) (figures : FiguresValue) : Type 0 where
   pub tick : figures.tick ≡ found.tick
   pub image : figures.image ≡ found.from
   pub slot : figures.slot ≡ found.slot

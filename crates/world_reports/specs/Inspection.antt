@@ -5,9 +5,12 @@ use Rattle.std.specs.List.{flat_map}
 use Rattle.std.specs.declared.alloc.Global.{Global}
 use Rattle.std.specs.declared.io.Error.{Error}
 use Rattle.recovery.specs.declared.recovered.Recovered.{Recovered}
-use Rattle.world_folder.specs.Fault.{Files, AreRead, Stands}
+use Rattle.world_folder.specs.Fault.{AreJudged, Files, AreRead, Stands}
+use Rattle.world_folder.specs.declared.lost.Finding.{Finding}
+use Rattle.world_folder.specs.declared.lost.OnLoss.{OnLoss}
 use Rattle.world_folder.specs.History.{Act, Printed, IsPrinted}
-use Rattle.world_reports.specs.Looking.{IsSeen}
+use Rattle.world_reports.specs.Looking.{IsSeen, length_or}
+use Rattle.world_reports.specs.Reports.{with_finding}
 use Rattle.world_folder.specs.Texts.{recovered_text}
 use Rattle.world_reports.specs.Texts.{image_reported_text, log_reported_text, counted_text}
 use Rattle.world_reports.specs.FileReports.{IsImageReport, IsLogReport}
@@ -43,11 +46,6 @@ IsFileReport ImageB bytes (Image reported) = IsImageReport bytes reported
 IsFileReport LogA bytes (Log reported) = IsLogReport bytes reported
 IsFileReport LogB bytes (Log reported) = IsLogReport bytes reported
 IsFileReport file bytes reported = ⊥
-
--- a length, or that of the bytes
-abbrev pub length_or : Option ℕ → (bytes : List ℕ) → ℕ
-length_or None bytes = length bytes
-length_or (Some known) bytes = known
 
 -- the line on a file that was read so: how its bytes read, or why it can't be read
 abbrev pub IsLineOf : WorldFile → Result (Vec ℕ Global) Error → Option ℕ → FileLine → Type 0
@@ -87,17 +85,20 @@ abbrev pub words_printed : (with_words : Bool) → (words : List ℕ) → List A
 words_printed true words acts = Printed (words_text words) ∷ acts
 words_printed false words acts = acts
 
--- The files were seen, and the line on each was printed. Then the world was printed that
--- recovery finds in them.
-pub record IsInspected (with_words : Bool) (before after : List Act) : Type 0 where
+-- The files were seen, and the line on each was printed. They aren't refused for a loss, and what
+-- is found of it was named. Then the world was printed that recovery finds in them.
+pub record IsInspected (with_words : Bool) (on_loss : OnLoss)
+    (before after : List Act) : Type 0 where
   pub seen : Seen
   pub looked : List Act
   pub reported : List Act
   pub bytes : Files
   pub found : Recovered
+  pub finding : Option Finding
   pub is_seen : IsSeen seen before looked
   pub files : AreFilesReported seen looked reported
   pub are_read : AreRead seen.files bytes
   pub stands : Stands bytes found
+  pub judged : AreJudged on_loss bytes found finding
   pub printed : after ≡ words_printed with_words found.words.items
-      (Printed (recovered_text found.tick found.from found.slot) ∷ reported)
+      (Printed (recovered_text found.tick found.from found.slot) ∷ with_finding finding reported)

@@ -1,12 +1,13 @@
 -- A look at the files of a folder.
-use Rattle.std.specs.Prelude.{◌≡◌, ◌⊎◌, ℕ, List, ◌∷◌, Option, Some, None}
+use Rattle.std.specs.Prelude.{◌≡◌, ◌⊎◌, ℕ, List, ◌∷◌, length, Option, Some, None}
 use Rattle.disk_model.specs.declared.four_files.FourFiles.{FourFiles}
 use Rattle.world_reports.specs.Copying.{IsCopied}
-use Rattle.world_folder.specs.Fault.{Files, AreRead}
+use Rattle.world_folder.specs.Fault.{AreJudged, AreRead, Files, Stands}
 use Rattle.world_folder.specs.History.{Act, Measured, AreInTurn}
 use Rattle.world_folder.specs.ReadIn.{AreReadIn}
-use Rattle.world_reports.specs.declared.copying.Images.TheVariants.{Both}
+use Rattle.world_folder.specs.declared.lost.OnLoss.{OnLoss}
 use Rattle.world_reports.specs.declared.looking.Seen.{Seen}
+use Rattle.world_reports.specs.declared.looking.SeenWorld.{SeenWorld}
 use Rattle.world_folder.specs.declared.world_file.WorldFile.{WorldFile}
 
 -- how long a file is, by its own name, if it can be looked at
@@ -34,7 +35,7 @@ pub record AreReadAndMeasured (seen : Seen) (before after : List Act) : Type 0 w
 pub record IsCopySeen (seen : Seen) (before after : List Act) : Type 0 where
   pub copied : Files
   pub lengths : FourFiles ℕ
-  pub copy : IsCopied Both copied lengths before after
+  pub copy : IsCopied copied lengths before after
   pub are_read : AreRead seen.files copied
   pub are_known : AreKnown lengths seen.lengths
 
@@ -43,3 +44,27 @@ abbrev pub IsSeen : Seen → (before after : List Act) → Type 0
 IsSeen seen before after =
     IsCopySeen seen before after
     ⊎ ((not_copied : List Act) × AreReadAndMeasured seen not_copied after)
+
+-- a length, or that of the bytes
+abbrev pub length_or : Option ℕ → (bytes : List ℕ) → ℕ
+length_or None bytes = length bytes
+length_or (Some known) bytes = known
+
+abbrev pub lengths_known : FourFiles (Option ℕ) → Files → FourFiles ℕ
+lengths_known lengths bytes = record {
+  image_a = length_or lengths.image_a bytes.image_a.items;
+  image_b = length_or lengths.image_b bytes.image_b.items;
+  log_a = length_or lengths.log_a bytes.log_a.items;
+  log_b = length_or lengths.log_b bytes.log_b.items;
+}
+
+-- The files were seen, and recovery finds this world in them. They aren't refused for a loss.
+pub record IsWorldSeen (on_loss : OnLoss) (world : SeenWorld)
+    (before after : List Act) : Type 0 where
+  pub seen : Seen
+  pub is_seen : IsSeen seen before after
+  pub are_read : AreRead seen.files world.files
+  pub stands : Stands world.files world.found.world
+  pub judged : AreJudged on_loss world.files world.found.world world.found.finding
+  pub lengths_are : world.lengths ≡ lengths_known seen.lengths world.files
+  pub tries_are : world.tries ≡ seen.tries

@@ -1,14 +1,16 @@
 ghost use Rattle.std.specs.Prelude.{◌≡◌, ◌∷◌, [], Some, IsTrue, IfOk, IfErr, OnOk};
 ghost use Rattle.disk_model.specs.Disk.{Only};
 ghost use Rattle.world_reports.specs.Backup.{IsBackedUp, AreWritten, AreImagesWritten, IsWritten};
-ghost use Rattle.world_reports.specs.Backup.{with_tries};
+ghost use Rattle.world_reports.specs.Backup.{IsWithoutOlder, shut_older, with_tries};
 ghost use Rattle.world_folder.specs.Ending.{IsFault, NamesFile};
 ghost use Rattle.world_folder.specs.History.{FoundEmpty};
 ghost use Rattle.world_reports.specs.Texts.{begun_text};
 
-use crate::copying::{Images, copy_world};
+use crate::looking::{SeenWorld, look_for_world};
+use crate::recovering::warn_of;
 use crate::verified::{BackedUp, verify};
 use disk_model::{Disk, FourFiles};
+use file_format::CLOSED_GATE;
 use recovery::Slot;
 use std::alloc::Global;
 use std::fs::{File, Files};
@@ -16,7 +18,7 @@ use std::time::Clock;
 use std::{fmt, io};
 use world_actions::Refusal;
 use world_folder::{
-    Ending, Filled, Folder, SystemFolder, WorldFile, answered, opened, path_of, stands_in,
+    Ending, Filled, Folder, OnLoss, Reading, SystemFolder, WorldFile, answered, opened, path_of,
     sync_names,
 };
 
@@ -25,42 +27,71 @@ pub fn back_up<R: Files<File = File> + Clock + Print + Eprint + AllocGlobal>(
     rt: &R,
     folder: &str,
     to: &str,
+    on_loss: OnLoss,
 ) -> Result<(), Ending>
     ensures { IfErr result IsFault }
 {
     let mut from = SystemFolder::new(rt, folder);
     let mut into = SystemFolder::new(rt, to);
-    copy_into(rt.alloc(), &mut from, folder, &mut into, to)?;
+    copy_into(rt.alloc(), &mut from, folder, &mut into, to, on_loss)?;
     Ok(())
 }
 
 /// Copies the world of a folder into an empty one, and prints which world the copy holds. A server
 /// may write the world meanwhile. The copy's image is written last, so a copy that was cut off
-/// holds no world. The copy has to recover to the world that was read. Its files are returned.
+/// holds no world; the older one is closed in it. The copy has to recover to the world that was
+/// read. On standard error it names what was lost of the source. The copy's files are returned.
 pub fn copy_into<F: Folder, T: Folder>(
     alloc: Global,
     from: &mut F,
     path: &str,
     into: &mut T,
     to: &str,
+    on_loss: OnLoss,
 ) -> Result<FourFiles<T::File>, Ending>
     ensures backed_up { IsTrue F.honest → IsTrue F.File.honest → IsTrue T.honest
         → IsTrue T.File.honest → IfOk result (λ files.
-        IsBackedUp T.File.content T.File.may_leave files (F.history from.old) (F.history from.new)
-        (T.history into.old) (T.history into.new)) }
+        IsBackedUp T.File.content T.File.may_leave on_loss files (F.history from.old)
+        (F.history from.new) (T.history into.old) (T.history into.new)) }
     ensures fault { IfErr result IsFault }
 {
     look_for_room(alloc, into, to)?;
-    let copied = match copy_world(alloc, from, path, Images::Newest) {
-        Ok(copied) => copied,
-        Err(reason) => return Err(reason.ending()),
-    };
-    let read = stands_in(alloc, &copied.files)?;
-    let files = write_files(alloc, into, to, &copied.files, read.slot)?;
-    let verified = verify(alloc, into, to, &read)?;
-    warn_of_tries(into, copied.tries)?;
+    let seen = look_for_world(alloc, from, path, Reading::Cached, on_loss)?;
+    let SeenWorld {
+        files,
+        lengths: _,
+        tries,
+        found,
+    } = seen;
+    let copied = without_older(files, found.world.slot);
+    let made = write_files(alloc, into, to, &copied, found.world.slot)?;
+    let verified = verify(alloc, into, to, &found.world)?;
+    warn_of(into, found.finding)?;
+    warn_of_tries(into, tries)?;
     into.print(BackedUp(verified))?;
-    Ok(files)
+    Ok(made)
+}
+
+// The files with the older image closed. An empty file stays one.
+fn without_older(files: FourFiles<Vec<u8>>, newest: Slot) -> FourFiles<Vec<u8>>
+    ensures { IsWithoutOlder newest files result }
+{
+    let mut files = files;
+    match newest {
+        Slot::A => shut(&mut files.image_b),
+        Slot::B => shut(&mut files.image_a),
+    }
+    files
+}
+
+// Leaves a closed gate of a file, unless it is empty.
+fn shut(bytes: &mut Vec<u8>)
+    ensures { bytes.new.items ≡ shut_older bytes.old.items }
+{
+    if !bytes.is_empty() {
+        bytes.truncate(1);
+        bytes[0] = CLOSED_GATE;
+    }
 }
 
 // Names how often a copy was begun, if it was begun anew.

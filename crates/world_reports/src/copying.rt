@@ -1,6 +1,6 @@
 //! A copy of a world's files that is taken while a server writes them.
 ghost use Rattle.std.specs.Prelude.{◌≡◌, ◌∷◌, IsTrue, IfOk, IfErr};
-ghost use Rattle.world_reports.specs.Copying.{IsNotCopied, IsCopied, IsCopyOf, AreSameContents};
+ghost use Rattle.world_reports.specs.Copying.{IsCopied, IsCopyOf, IsNotCopied, AreSameContents};
 ghost use Rattle.world_reports.specs.Copying.{reads};
 ghost use Rattle.world_folder.specs.Ending.{IsFault, NamesFile};
 ghost use Rattle.world_folder.specs.History.{Read};
@@ -10,7 +10,7 @@ use crate::looks::{Alike, Before};
 use disk_model::FourFiles;
 use std::alloc::Global;
 use std::io;
-use world_folder::{Ending, Fault, Folder, Reading, WorldDisk, WorldFile, ending_for, opened};
+use world_folder::{Ending, Folder, Reading, WorldDisk, WorldFile, ending_for, opened};
 
 /// How often a copy is begun anew.
 const TRIES: u32 = 1_000;
@@ -21,15 +21,6 @@ const BLANKS: u32 = 20;
 
 /// Why no copy was taken.
 const UNSTEADY: &str = "a server began a new image or a new log under each try to copy them";
-
-/// Which images are copied, and how the files are opened.
-#[derive(Clone, Copy, Debug, PartialEq, Eq)]
-pub enum Images {
-    /// The newest one, as the system has it. The file of the older one is closed in the copy.
-    Newest,
-    /// Both, as they were at one time. The files are synced first, and read as the device has them.
-    Both,
-}
 
 /// The bytes of a world's files at one time that their formats read, and how long the files are.
 #[derive(Drop)]
@@ -48,20 +39,7 @@ pub enum NotCopied {
     /// A new image or a new segment was begun under each try.
     Unsteady(Ending),
     /// A file can't be read.
-    Unreadable(Ending),
-}
-
-impl NotCopied {
-    /// How the program ends.
-    pub fn ending(self) -> Ending
-        requires { IsNotCopied self }
-        ensures { IsFault result }
-    {
-        match self {
-            NotCopied::NoImage => Ending::NoWorld(Fault::NoImage),
-            NotCopied::Unsteady(ending) | NotCopied::Unreadable(ending) => ending,
-        }
-    }
+    Unreadable,
 }
 
 /// The files of a world at a path, open to be read.
@@ -71,20 +49,21 @@ pub struct Source<'a, D> {
     pub files: FourFiles<D>,
 }
 
-/// Copies the files of the folder at this path without a lock, also while a server writes them.
+/// Copies the files of the folder at this path, opened so. It takes no lock, and a server may write
+/// them meanwhile.
 pub fn copy_world<F: Folder>(
     alloc: Global,
     folder: &mut F,
     path: &str,
-    images: Images,
+    how: Reading,
 ) -> Result<Copied, NotCopied>
     ensures copied { IsTrue F.honest → IsTrue F.File.honest → IfOk result (λ copied.
-        IsCopied images copied.files copied.lengths (F.history folder.old) (F.history folder.new)) }
+        IsCopied copied.files copied.lengths (F.history folder.old) (F.history folder.new)) }
     ensures not { IfErr result IsNotCopied }
 {
-    match open_source(alloc, folder, path, images) {
-        Ok(mut source) => copy_from(alloc, folder, &mut source, images),
-        Err(ending) => Err(NotCopied::Unreadable(ending)),
+    match open_source(alloc, folder, path, how) {
+        Ok(mut source) => copy_from(alloc, folder, &mut source),
+        Err(_) => Err(NotCopied::Unreadable),
     }
 }
 
@@ -93,16 +72,15 @@ fn copy_from<F: Folder>(
     alloc: Global,
     folder: &mut F,
     source: &mut Source<'_, F::File>,
-    images: Images,
 ) -> Result<Copied, NotCopied>
     ensures copied { IsTrue F.File.honest → IfOk result (λ copied.
-        IsCopyOf F.File.content images source.old.files copied.files copied.lengths) }
+        IsCopyOf F.File.content source.old.files copied.files copied.lengths) }
     ensures history { IsTrue F.honest → F.history folder.new ≡ F.history folder.old }
     ensures not { IfErr result IsNotCopied }
 {
     let mut blanks = 0;
     for number in 1..=TRIES {
-        match try_copy(alloc, source, images) {
+        match try_copy(alloc, source) {
             Ok(Tried::Copied(alike)) => {
                 let (files, lengths) = alike.parts();
                 return Ok(Copied {
@@ -113,7 +91,7 @@ fn copy_from<F: Folder>(
             }
             Ok(Tried::NoImage) => blanks += 1,
             Ok(Tried::Unsteady) => {}
-            Err(ending) => return Err(NotCopied::Unreadable(ending)),
+            Err(_) => return Err(NotCopied::Unreadable),
         }
         if blanks == BLANKS {
             return Err(NotCopied::NoImage);
@@ -128,7 +106,7 @@ fn open_source<'a, F: Folder>(
     alloc: Global,
     folder: &mut F,
     path: &'a str,
-    images: Images,
+    how: Reading,
 ) -> Result<Source<'a, F::File>, Ending>
     ensures opened { IsTrue F.honest
         → IfOk result (λ source. F.history folder.new ≡ reads (F.File.content source.files.image_a)
@@ -137,10 +115,10 @@ fn open_source<'a, F: Folder>(
     ensures fault { IfErr result IsFault }
 {
     let files = FourFiles {
-        image_a: open_one(alloc, folder, path, WorldFile::ImageA, images)?,
-        image_b: open_one(alloc, folder, path, WorldFile::ImageB, images)?,
-        log_a: open_one(alloc, folder, path, WorldFile::LogA, images)?,
-        log_b: open_one(alloc, folder, path, WorldFile::LogB, images)?,
+        image_a: open_one(alloc, folder, path, WorldFile::ImageA, how)?,
+        image_b: open_one(alloc, folder, path, WorldFile::ImageB, how)?,
+        log_a: open_one(alloc, folder, path, WorldFile::LogA, how)?,
+        log_b: open_one(alloc, folder, path, WorldFile::LogB, how)?,
     };
     Ok(Source { path, files })
 }
@@ -150,17 +128,13 @@ fn open_one<F: Folder>(
     folder: &mut F,
     path: &str,
     file: WorldFile,
-    images: Images,
+    how: Reading,
 ) -> Result<F::File, Ending>
     ensures opened { IsTrue F.honest → IfOk result
         (λ disk. F.history folder.new ≡ Read file (F.File.content disk) ∷ F.history folder.old) }
     ensures named { IfErr result (NamesFile path.now file) }
     ensures fault { IfErr result IsFault }
 {
-    let how = match images {
-        Images::Newest => Reading::Cached,
-        Images::Both => Reading::Synced,
-    };
     let disk = folder.open_to_read(file, how);
     opened(alloc, path, file.name(), disk)
 }
@@ -176,12 +150,8 @@ enum Tried {
 }
 
 // Copies images and the log between two looks at all heads. The copied files are looked at too.
-fn try_copy<D: WorldDisk>(
-    alloc: Global,
-    source: &mut Source<'_, D>,
-    images: Images,
-) -> Result<Tried, Ending>
-    ensures copied { IsTrue D.honest → IfOk result (IsTriedOf D.content images source.old.files) }
+fn try_copy<D: WorldDisk>(alloc: Global, source: &mut Source<'_, D>) -> Result<Tried, Ending>
+    ensures copied { IsTrue D.honest → IfOk result (IsTriedOf D.content source.old.files) }
     ensures kept { IsTrue D.honest
         → IfOk result (λ _. AreSameContents D.content source.old.files source.new.files) }
     ensures fault { IfErr result IsFault }
@@ -189,7 +159,7 @@ fn try_copy<D: WorldDisk>(
     let Some(before) = Before::look(alloc, source)? else {
         return Ok(Tried::NoImage);
     };
-    let within = before.read(alloc, source, images)?;
+    let within = before.read(alloc, source)?;
     let after = within.look_again(alloc, source)?;
     match Alike::of(within, after) {
         Some(alike) => Ok(Tried::Copied(alike)),

@@ -1,7 +1,6 @@
 //! Figures of a world, by what its files hold.
-ghost use Rattle.std.specs.Prelude.{◌≡◌, IsTrue, IfOk, IfErr, OnOk, Some};
+ghost use Rattle.std.specs.Prelude.{◌≡◌, IsTrue, IfErr, OnOk, Some};
 ghost use Rattle.world_folder.specs.Ending.{IsFault};
-ghost use Rattle.world_folder.specs.Fault.{Explains};
 ghost use Rattle.world_reports.specs.StatusReport.{IsStatusReported, IsServerReported};
 ghost use Rattle.world_reports.specs.StatusReport.{AreFiguresReported};
 ghost use Rattle.world_reports.specs.FileReports.{IsLogReport};
@@ -9,21 +8,22 @@ ghost use Rattle.world_reports.specs.Figures.{AreFigures, current_segment, repor
 ghost use Rattle.world_reports.specs.Texts.{figures_text, lengths_text, pair_text, segment_text};
 ghost use Rattle.world_reports.specs.Texts.{total_of};
 
-use crate::copying::{Images, copy_world};
 use crate::counted::Counted;
 use crate::file_reports::{LogReport, report_log};
+use crate::looking::look_for_world;
+use crate::recovering::warn_of;
 use crate::served::server_in;
 use action_log::SEGMENT_TICKS;
 use disk_model::FourFiles;
-use recovery::Slot;
+use recovery::{Recovered, Slot};
 use std::alloc::Global;
 use std::fmt;
 use std::fs::{File, Files};
 use std::time::Clock;
 use world_actions::Refusal;
 use world_folder::{
-    Ending, Fault, Folder, FoundReport, IMAGE_A, IMAGE_B, LOG_A, LOG_B, SystemFolder, WorldReport,
-    stands_in,
+    Ending, Folder, FoundReport, IMAGE_A, IMAGE_B, LOG_A, LOG_B, OnLoss, Reading, SystemFolder,
+    WorldReport,
 };
 
 /// Figures of a world.
@@ -38,21 +38,17 @@ pub struct Figures {
     pub segment: Option<(Slot, usize)>,
 }
 
-/// The figures of a world whose files have these bytes.
-pub fn figures_of(alloc: Global, files: &FourFiles<Vec<u8>>) -> Result<Figures, Fault>
-    ensures figures { IfOk result (AreFigures files.now) }
-    ensures fault { IfErr result (Explains files.now) }
+/// The figures of a world that was found in files with these bytes.
+pub fn figures_of(found: &Recovered, files: &FourFiles<Vec<u8>>) -> Figures
+    ensures { AreFigures files.now found.now result }
 {
     let log_a = report_log(&files.log_a);
     let log_b = report_log(&files.log_b);
-    match stands_in(alloc, files) {
-        Ok(found) => Ok(Figures {
-            tick: found.tick,
-            image: found.from,
-            slot: found.slot,
-            segment: current_segment(log_a, log_b),
-        }),
-        Err(fault) => Err(fault),
+    Figures {
+        tick: found.tick,
+        image: found.from,
+        slot: found.slot,
+        segment: current_segment(log_a, log_b),
     }
 }
 
@@ -82,20 +78,32 @@ fn opened_segment(log: LogReport) -> Option<(u64, usize)>
 pub fn status<R: Files<File = File> + Clock + Print + Eprint + AllocGlobal>(
     rt: &R,
     folder: &str,
+    on_loss: OnLoss,
 ) -> Result<(), Ending>
     ensures { IfErr result IsFault }
 {
-    report_status(rt.alloc(), &mut SystemFolder::new(rt, folder), folder)
+    report_status(
+        rt.alloc(),
+        &mut SystemFolder::new(rt, folder),
+        folder,
+        on_loss,
+    )
 }
 
 /// Prints the figures of the world in the folder at this path, which a server may write meanwhile,
-/// and then whether one does. If the files hold no world, only the last line is printed.
-pub fn report_status<F: Folder>(alloc: Global, folder: &mut F, path: &str) -> Result<(), Ending>
+/// and then whether one does. On standard error it names what was lost. If the files hold no world,
+/// only the last line is printed.
+pub fn report_status<F: Folder>(
+    alloc: Global,
+    folder: &mut F,
+    path: &str,
+    on_loss: OnLoss,
+) -> Result<(), Ending>
     ensures reported { IsTrue F.honest → IsTrue F.File.honest
-        → OnOk result (IsStatusReported (F.history folder.old) (F.history folder.new)) }
+        → OnOk result (IsStatusReported on_loss (F.history folder.old) (F.history folder.new)) }
     ensures fault { IfErr result IsFault }
 {
-    let printed = print_figures(alloc, folder, path);
+    let printed = print_figures(alloc, folder, path, on_loss);
     print_server(folder)?;
     printed
 }
@@ -110,18 +118,20 @@ fn print_server<F: Folder>(folder: &mut F) -> Result<(), Ending>
     Ok(())
 }
 
-fn print_figures<F: Folder>(alloc: Global, folder: &mut F, path: &str) -> Result<(), Ending>
+fn print_figures<F: Folder>(
+    alloc: Global,
+    folder: &mut F,
+    path: &str,
+    on_loss: OnLoss,
+) -> Result<(), Ending>
     ensures reported { IsTrue F.honest → IsTrue F.File.honest
-        → OnOk result (AreFiguresReported (F.history folder.old) (F.history folder.new)) }
+        → OnOk result (AreFiguresReported on_loss (F.history folder.old) (F.history folder.new)) }
     ensures fault { IfErr result IsFault }
 {
-    let copied = match copy_world(alloc, folder, path, Images::Newest) {
-        Ok(copied) => copied,
-        Err(reason) => return Err(reason.ending()),
-    };
-    let figures = figures_of(alloc, &copied.files)?;
-    folder.print(figures)?;
-    folder.print(Lengths(copied.lengths))?;
+    let seen = look_for_world(alloc, folder, path, Reading::Cached, on_loss)?;
+    warn_of(folder, seen.found.finding)?;
+    folder.print(figures_of(&seen.found.world, &seen.files))?;
+    folder.print(Lengths(seen.lengths))?;
     Ok(())
 }
 

@@ -5,8 +5,8 @@ ghost use Rattle.world_reports.specs.Inspection.{AreFilesReported, file_line_tex
 
 use crate::counted::Counted;
 use crate::file_reports::{ImageReport, LogReport, report_image, report_log};
-use crate::looking::{Seen, look_at_folder};
-use crate::recovering::found_in;
+use crate::looking::{Seen, found_in, look_at_folder};
+use crate::recovering::warn_of;
 use disk_model::FourFiles;
 use recovery::Recovered;
 use std::alloc::{AllocError, Global};
@@ -14,7 +14,7 @@ use std::fs::{File, Files};
 use std::time::Clock;
 use std::{fmt, io};
 use world_actions::Refusal;
-use world_folder::{Ending, Folder, FoundReport, Named, SystemFolder, WorldFile};
+use world_folder::{Ending, Folder, FoundReport, Named, OnLoss, Reading, SystemFolder, WorldFile};
 
 /// Prints how each file of a folder of the system reads, and which world they hold, as
 /// `report_files` does.
@@ -22,31 +22,34 @@ pub fn inspect<R: Files<File = File> + Clock + Print + Eprint + AllocGlobal>(
     rt: &R,
     folder: &str,
     with_words: bool,
+    on_loss: OnLoss,
 ) -> Result<(), Ending>
     ensures { IfErr result IsFault }
 {
     let mut system = SystemFolder::new(rt, folder);
-    report_files(rt.alloc(), &mut system, folder, with_words)
+    report_files(rt.alloc(), &mut system, folder, with_words, on_loss)
 }
 
 /// Prints how each file of the folder at this path reads, and then which world they hold, with
-/// its words if they are asked for. A server may write the world meanwhile. This writes nothing
-/// into the folder.
+/// its words if they are asked for. On standard error it names what was lost. A server may write
+/// the world meanwhile. This writes nothing into the folder.
 pub fn report_files<F: Folder>(
     alloc: Global,
     folder: &mut F,
     path: &str,
     with_words: bool,
+    on_loss: OnLoss,
 ) -> Result<(), Ending>
-    ensures reported { IsTrue F.honest → IsTrue F.File.honest
-        → OnOk result (IsInspected with_words (F.history folder.old) (F.history folder.new)) }
+    ensures reported { IsTrue F.honest → IsTrue F.File.honest → OnOk result
+        (IsInspected with_words on_loss (F.history folder.old) (F.history folder.new)) }
     ensures fault { IfErr result IsFault }
 {
-    let seen = look_at_folder(alloc, folder, path)?;
+    let seen = look_at_folder(alloc, folder, path, Reading::Synced)?;
     print_files(alloc, folder, &seen)?;
-    let found = found_in(alloc, path, seen.files)?;
-    folder.print(FoundReport::of(&found))?;
-    print_words(alloc, folder, &found, with_words)?;
+    let (_, found) = found_in(alloc, path, seen.files, on_loss)?;
+    warn_of(folder, found.finding)?;
+    folder.print(FoundReport::of(&found.world))?;
+    print_words(alloc, folder, &found.world, with_words)?;
     Ok(())
 }
 

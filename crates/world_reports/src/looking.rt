@@ -1,16 +1,18 @@
 //! A look at the four files of a folder, which a server may write meanwhile.
 ghost use Rattle.std.specs.Prelude.{◌≡◌, Ok, Some, IsTrue, IfOk, IfErr};
-ghost use Rattle.world_folder.specs.Ending.{IsFault};
-ghost use Rattle.world_folder.specs.Fault.{AreRead};
+ghost use Rattle.world_folder.specs.Ending.{IsFault, ReportsWhy};
+ghost use Rattle.world_folder.specs.Fault.{AreJudged, AreRead, Stands};
 ghost use Rattle.world_reports.specs.Looking.{IsSeen, IsMeasured, AreMeasured, AreReadAndMeasured};
-ghost use Rattle.world_reports.specs.Looking.{AreKnown};
+ghost use Rattle.world_reports.specs.Looking.{AreKnown, IsWorldSeen, lengths_known};
 ghost use Rattle.world_folder.specs.WorldFile.{AreNamed};
 
-use crate::copying::{Images, NotCopied, copy_world};
+use crate::copying::{NotCopied, copy_world};
 use disk_model::FourFiles;
 use std::alloc::Global;
 use std::io;
-use world_folder::{Ending, Folder, Named, WorldFile, read_folder};
+use world_folder::{
+    Ending, Folder, Found, Named, OnLoss, Reading, WorldFile, all_read, read_folder, stands_in,
+};
 
 /// The bytes of four files at one time that their formats read, and how long the files are.
 #[derive(Drop)]
@@ -18,23 +20,101 @@ pub struct Seen {
     pub files: FourFiles<Named<io::Result<Vec<u8>>>>,
     /// A length is missing if its file can't be looked at.
     pub lengths: FourFiles<Option<u64>>,
+    /// How often the look was begun.
+    pub tries: u32,
 }
 
-/// Looks at both images and the log of the folder at this path. If no image is open, or a file
-/// can't be read, no server writes a world there, and each file is read by itself.
-pub fn look_at_folder<F: Folder>(alloc: Global, folder: &mut F, path: &str) -> Result<Seen, Ending>
+/// The world that the files of a folder hold at one time.
+#[derive(Drop)]
+pub struct SeenWorld {
+    pub files: FourFiles<Vec<u8>>,
+    /// How long the files are; the number of its bytes for a file that can't be looked at.
+    pub lengths: FourFiles<u64>,
+    /// How often the look was begun.
+    pub tries: u32,
+    pub found: Found,
+}
+
+/// Looks at the folder at this path for its world, whose losses are named or refused.
+pub fn look_for_world<F: Folder>(
+    alloc: Global,
+    folder: &mut F,
+    path: &str,
+    how: Reading,
+    on_loss: OnLoss,
+) -> Result<SeenWorld, Ending>
+    ensures seen { IsTrue F.honest → IsTrue F.File.honest → IfOk result (λ seen.
+        IsWorldSeen on_loss seen (F.history folder.old) (F.history folder.new)) }
+    ensures fault { IfErr result IsFault }
+{
+    let Seen {
+        files,
+        lengths,
+        tries,
+    } = look_at_folder(alloc, folder, path, how)?;
+    let (files, found) = found_in(alloc, path, files, on_loss)?;
+    Ok(SeenWorld {
+        lengths: lengths_known(&lengths, &files),
+        files,
+        tries,
+        found,
+    })
+}
+
+/// The bytes of files that were read so, and the world that they hold, or how the program ends.
+pub fn found_in(
+    alloc: Global,
+    folder: &str,
+    files: FourFiles<Named<io::Result<Vec<u8>>>>,
+    on_loss: OnLoss,
+) -> Result<(FourFiles<Vec<u8>>, Found), Ending>
+    ensures read { IfOk result (λ found. AreRead files found.0) }
+    ensures found { IfOk result (λ found. Stands found.0 found.1.world) }
+    ensures judged { IfOk result (λ found.
+        AreJudged on_loss found.0 found.1.world found.1.finding) }
+    ensures why { IfErr result (ReportsWhy on_loss folder.now files) }
+    ensures fault { IfErr result IsFault }
+{
+    let files = all_read(alloc, folder, files)?;
+    match stands_in(alloc, &files, on_loss) {
+        Ok(found) => Ok((files, found)),
+        Err(fault) => Err(Ending::NoWorld(fault)),
+    }
+}
+
+// How long the files are.
+fn lengths_known(lengths: &FourFiles<Option<u64>>, files: &FourFiles<Vec<u8>>) -> FourFiles<u64>
+    ensures { result ≡ lengths_known lengths.now files.now }
+{
+    FourFiles {
+        image_a: lengths.image_a.unwrap_or(files.image_a.len() as u64),
+        image_b: lengths.image_b.unwrap_or(files.image_b.len() as u64),
+        log_a: lengths.log_a.unwrap_or(files.log_a.len() as u64),
+        log_b: lengths.log_b.unwrap_or(files.log_b.len() as u64),
+    }
+}
+
+/// Looks at both images and the log of the folder at this path, opened so. If no image is open, or
+/// a file can't be read, no server writes a world there, and each file is read by itself.
+pub fn look_at_folder<F: Folder>(
+    alloc: Global,
+    folder: &mut F,
+    path: &str,
+    how: Reading,
+) -> Result<Seen, Ending>
     ensures seen { IsTrue F.honest → IsTrue F.File.honest → IfOk result (λ seen.
         IsSeen seen (F.history folder.old) (F.history folder.new)) }
     ensures named { IfOk result (λ seen. AreNamed seen.files) }
     ensures fault { IfErr result IsFault }
 {
-    match copy_world(alloc, folder, path, Images::Both) {
+    match copy_world(alloc, folder, path, how) {
         Ok(copied) => Ok(Seen {
             files: named(copied.files),
             lengths: known(copied.lengths),
+            tries: copied.tries,
         }),
         Err(NotCopied::Unsteady(ending)) => Err(ending),
-        Err(NotCopied::NoImage | NotCopied::Unreadable(_)) => Ok(look_at_each(alloc, folder)),
+        Err(NotCopied::NoImage | NotCopied::Unreadable) => Ok(look_at_each(alloc, folder)),
     }
 }
 
@@ -46,7 +126,11 @@ fn look_at_each<F: Folder>(alloc: Global, folder: &mut F) -> Seen
 {
     let files = read_folder(alloc, folder);
     let lengths = lengths_in(folder);
-    Seen { files, lengths }
+    Seen {
+        files,
+        lengths,
+        tries: 1,
+    }
 }
 
 // The files that were read, each with its name.

@@ -1,17 +1,15 @@
 //! Three looks at a world's files, which a server may write meanwhile: at their heads, at their
 //! bytes, and at their heads again.
-ghost use Rattle.std.specs.Prelude.{◌≡◌, true, false, [], length, IsTrue, IfOk, IfErr, IfSome};
-ghost use Rattle.world_reports.specs.Copying.{IsCutShort, IsReadWhole, AreParts, AreHeads, AreShut};
-ghost use Rattle.world_reports.specs.Copying.{IsPart, AreSameContents, AreLengths, whole_files};
-ghost use Rattle.world_reports.specs.Copying.{head_of, shut_older};
+ghost use Rattle.std.specs.Prelude.{◌≡◌, true, false, length, IsTrue, IfOk, IfErr, IfSome};
+ghost use Rattle.world_reports.specs.Copying.{IsCutShort, IsReadWhole, AreParts};
+ghost use Rattle.world_reports.specs.Copying.{IsPart, AreSameContents, AreLengths, head_of};
 ghost use Rattle.world_folder.specs.Ending.{IsFault, NamesFile};
 ghost use Rattle.world_folder.specs.Look.{look_of};
-ghost use Rattle.world_reports.specs.Looks.{AreLookedAlike, IsNewest};
+ghost use Rattle.world_reports.specs.Looks.{AreLookedAlike};
 
-use crate::copying::{Images, Source};
+use crate::copying::Source;
 use action_log::{SEGMENT_BYTES_MAX, extent_of};
 use disk_model::FourFiles;
-use file_format::{CLOSED_GATE, Slot};
 use std::alloc::Global;
 use world_folder::{
     Ending, IMAGE_HEAD, Look, SEGMENT_HEAD, WorldDisk, WorldFile, answered, look_at, opened,
@@ -22,14 +20,12 @@ use world_folder::{
 #[derive(Drop)]
 pub struct Before {
     heads: FourFiles<Vec<u8>>,
-    newest: Slot,
 }
 
 /// The bytes of four files that were read after a look at their heads, and how long the
 /// files were then.
 #[derive(Drop)]
 pub struct Within {
-    images: Images,
     before: Before,
     files: FourFiles<Vec<u8>>,
     lengths: FourFiles<u64>,
@@ -55,17 +51,15 @@ impl Before {
         alloc: Global,
         source: &mut Source<'_, D>,
     ) -> Result<Option<Self>, Ending>
-        ensures heads { IsTrue D.honest → IfOk result
-            (λ found. IfSome found (λ before. AreHeads D.content source.old.files before.heads)) }
-        ensures newest { IfOk result (λ found.
-            IfSome found (λ before. IsNewest before.heads before.newest)) }
+        ensures heads { IsTrue D.honest → IfOk result (λ found.
+            IfSome found (λ before. AreParts D.content false source.old.files before.heads)) }
         ensures kept { IsTrue D.honest
             → IfOk result (λ _. AreSameContents D.content source.old.files source.new.files) }
         ensures fault { IfErr result IsFault }
     {
-        let heads = read_heads(alloc, source)?;
+        let heads = read_files(alloc, source, false)?;
         match look_at(&heads).newest {
-            Some((newest, _)) => Ok(Some(Before { heads, newest })),
+            Some(_) => Ok(Some(Before { heads })),
             None => Ok(None),
         }
     }
@@ -75,22 +69,19 @@ impl Before {
         self,
         alloc: Global,
         source: &mut Source<'_, D>,
-        images: Images,
     ) -> Result<Within, Ending>
-        ensures before { IfOk result (λ within. (within.before ≡ self) × (within.images ≡ images)) }
+        ensures before { IfOk result (λ within. within.before ≡ self) }
         ensures files { IsTrue D.honest
-            → IfOk result (λ within.
-            AreParts D.content (whole_files images self.newest) source.old.files within.files) }
+            → IfOk result (λ within. AreParts D.content true source.old.files within.files) }
         ensures lengths { IsTrue D.honest
             → IfOk result (λ within. AreLengths D.content source.old.files within.lengths) }
         ensures kept { IsTrue D.honest
             → IfOk result (λ _. AreSameContents D.content source.old.files source.new.files) }
         ensures fault { IfErr result IsFault }
     {
-        let files = read_files(alloc, source, whole_files(images, self.newest))?;
+        let files = read_files(alloc, source, true)?;
         let lengths = lengths_of(alloc, source)?;
         Ok(Within {
-            images,
             before: self,
             files,
             lengths,
@@ -106,45 +97,37 @@ impl Within {
         source: &mut Source<'_, D>,
     ) -> Result<After, Ending>
         ensures heads { IsTrue D.honest
-            → IfOk result (λ after. AreHeads D.content source.old.files after.heads) }
+            → IfOk result (λ after. AreParts D.content false source.old.files after.heads) }
         ensures kept { IsTrue D.honest
             → IfOk result (λ _. AreSameContents D.content source.old.files source.new.files) }
         ensures fault { IfErr result IsFault }
     {
-        let heads = read_heads(alloc, source)?;
+        let heads = read_files(alloc, source, false)?;
         Ok(After { heads })
     }
 }
 
 impl Alike {
-    /// The bytes of a look between two others, if all three are alike, and no segment
-    /// became longer.
+    /// The bytes of a look between two others, if all three are alike, neither image was written
+    /// anew, and no segment became longer.
     pub fn of(within: Within, after: After) -> Option<Self>
         ensures alike { IfSome result (λ _. AreLookedAlike within after) }
-        ensures files { IfSome result (λ alike.
-            AreShut within.images within.before.newest within.files alike.files) }
+        ensures files { IfSome result (λ alike. alike.files ≡ within.files) }
         ensures lengths { IfSome result (λ alike. alike.lengths ≡ within.lengths) }
     {
         let Within {
-            images,
-            before: Before { heads, newest },
+            before: Before { heads },
             files,
             lengths,
         } = within;
         if !are_alike(look_at(&heads), look_at(&files), look_at(&after.heads))
             || is_cut_short(&files.log_a, lengths.log_a)
             || is_cut_short(&files.log_b, lengths.log_b)
+            || !same_images(&heads, &after.heads)
         {
             return None;
         }
-        match images {
-            Images::Newest => Some(Alike {
-                files: without_older(files, newest),
-                lengths,
-            }),
-            Images::Both if same_images(&heads, &after.heads) => Some(Alike { files, lengths }),
-            Images::Both => None,
-        }
+        Some(Alike { files, lengths })
     }
 
     /// The bytes, and how long the files are.
@@ -185,46 +168,11 @@ fn are_alike(before: Look, within: Look, after: Look) -> bool
     before == within && after == within
 }
 
-// Of which files all is copied: of the others the head.
-fn whole_files(images: Images, newest: Slot) -> FourFiles<bool>
-    ensures { result ≡ whole_files images newest }
-{
-    let (image_a, image_b) = match (images, newest) {
-        (Images::Both, _) => (true, true),
-        (Images::Newest, Slot::A) => (true, false),
-        (Images::Newest, Slot::B) => (false, true),
-    };
-    FourFiles {
-        image_a,
-        image_b,
-        log_a: true,
-        log_b: true,
-    }
-}
-
-fn read_heads<D: WorldDisk>(
-    alloc: Global,
-    source: &mut Source<'_, D>,
-) -> Result<FourFiles<Vec<u8>>, Ending>
-    ensures heads { IsTrue D.honest → IfOk result (AreHeads D.content source.old.files) }
-    ensures kept { IsTrue D.honest
-        → IfOk result (λ _. AreSameContents D.content source.old.files source.new.files) }
-    ensures fault { IfErr result IsFault }
-{
-    let heads = FourFiles {
-        image_a: false,
-        image_b: false,
-        log_a: false,
-        log_b: false,
-    };
-    read_files(alloc, source, heads)
-}
-
 // Each file, or its head.
 fn read_files<D: WorldDisk>(
     alloc: Global,
     source: &mut Source<'_, D>,
-    whole: FourFiles<bool>,
+    whole: bool,
 ) -> Result<FourFiles<Vec<u8>>, Ending>
     ensures parts { IsTrue D.honest → IfOk result (AreParts D.content whole source.old.files) }
     ensures kept { IsTrue D.honest
@@ -234,22 +182,10 @@ fn read_files<D: WorldDisk>(
     let path = source.path;
     let files = &mut source.files;
     Ok(FourFiles {
-        image_a: read_one(
-            alloc,
-            path,
-            WorldFile::ImageA,
-            &mut files.image_a,
-            whole.image_a,
-        )?,
-        image_b: read_one(
-            alloc,
-            path,
-            WorldFile::ImageB,
-            &mut files.image_b,
-            whole.image_b,
-        )?,
-        log_a: read_one(alloc, path, WorldFile::LogA, &mut files.log_a, whole.log_a)?,
-        log_b: read_one(alloc, path, WorldFile::LogB, &mut files.log_b, whole.log_b)?,
+        image_a: read_one(alloc, path, WorldFile::ImageA, &mut files.image_a, whole)?,
+        image_b: read_one(alloc, path, WorldFile::ImageB, &mut files.image_b, whole)?,
+        log_a: read_one(alloc, path, WorldFile::LogA, &mut files.log_a, whole)?,
+        log_b: read_one(alloc, path, WorldFile::LogB, &mut files.log_b, whole)?,
     })
 }
 
@@ -282,33 +218,6 @@ fn head_of(file: WorldFile) -> usize
     match file {
         WorldFile::ImageA | WorldFile::ImageB => IMAGE_HEAD,
         WorldFile::LogA | WorldFile::LogB => SEGMENT_HEAD,
-    }
-}
-
-// The files with the older image closed, of which only the head was copied. An empty
-// file stays one.
-fn without_older(files: FourFiles<Vec<u8>>, newest: Slot) -> FourFiles<Vec<u8>>
-    ensures a { newest ≡ Slot.A → (result.image_a ≡ files.image_a)
-        × (result.image_b.items ≡ shut_older files.image_b.items) }
-    ensures b { newest ≡ Slot.B → (result.image_b ≡ files.image_b)
-        × (result.image_a.items ≡ shut_older files.image_a.items) }
-    ensures log { (result.log_a ≡ files.log_a) × (result.log_b ≡ files.log_b) }
-{
-    let mut files = files;
-    match newest {
-        Slot::A => shut(&mut files.image_b),
-        Slot::B => shut(&mut files.image_a),
-    }
-    files
-}
-
-// Leaves a closed gate of a file, unless it is empty.
-fn shut(bytes: &mut Vec<u8>)
-    ensures { bytes.new.items ≡ shut_older bytes.old.items }
-{
-    if !bytes.is_empty() {
-        bytes.truncate(1);
-        bytes[0] = CLOSED_GATE;
     }
 }
 

@@ -5,11 +5,11 @@ ghost use Rattle.world_folder.specs.Texts.{world_text};
 ghost use Rattle.world_reports.specs.Texts.{backed_up_text, salvaged_text};
 ghost use Rattle.world_reports.specs.Verified.{IsSameWorld, IsVerified};
 
-use crate::recovering::found_in;
+use crate::looking::found_in;
 use recovery::Recovered;
 use std::alloc::Global;
 use std::{fmt, io};
-use world_folder::{Ending, Folder, WorldReport, ending_for, read_folder};
+use world_folder::{Ending, Folder, OnLoss, WorldReport, ending_for, read_folder};
 
 /// Why what was written isn't reported as a world.
 const OTHER_WORLD: &str = "its files hold another world than was written into them";
@@ -58,8 +58,8 @@ pub fn verify<F: Folder>(
     ensures fault { IfErr result IsFault }
 {
     let read = read_folder(alloc, folder);
-    let found = found_in(alloc, path, read)?;
-    match Verified::of(written, &found) {
+    let (_, found) = found_in(alloc, path, read, OnLoss::Warn)?;
+    match Verified::of(written, &found.world) {
         Some(verified) => Ok(verified),
         None => Err(ending_for(alloc, "", path, io::Error::other(OTHER_WORLD))),
     }

@@ -3,7 +3,7 @@ use Rattle.std.specs.Prelude.{ℕ, List, [], ◌++◌, codes, decimal, Option, S
 use Rattle.std.specs.Net.Socket.{socket_port}
 use Rattle.std.specs.Path.{path_buf_bytes}
 use Rattle.client_service.specs.declared.door.Unserved.TheVariants.{NoMemory, NoThread}
-use Rattle.world_folder.specs.Texts.{doubtful_text, world_text}
+use Rattle.world_folder.specs.Texts.{finding_text, world_text}
 use Rattle.world_server.specs.declared.line.Line.{Line}
 use Rattle.world_server.specs.declared.line.Line.TheVariants as line
 use Rattle.world_server.specs.declared.line.Paths.{Paths}
@@ -26,7 +26,7 @@ abbrev pub line_text : Paths → Line → Option (List ℕ)
 line_text paths line.ManyImages =
     Some (codes "an image every 64 ticks can halve the speed: give --every, for example 4096")
 line_text paths (line.Recovered ended from) = Some (codes "recovered " ++ world_text ended from)
-line_text paths (line.Doubtful doubtful) = Some (doubtful_text doubtful.0)
+line_text paths (line.Found finding) = Some (finding_text finding)
 line_text paths (line.Listening port) = Some (codes "listening " ++ decimal port)
 line_text paths line.ListeningAtSocket = Some (codes "listening " ++ path_buf_bytes paths.socket)
 line_text paths (line.Stopped ended acked) =

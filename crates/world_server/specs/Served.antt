@@ -20,7 +20,8 @@ use Rattle.world_folder.specs.Ending.{IsFault}
 use Rattle.world_folder.specs.Unrecovered.{IsUnrecovered}
 use Rattle.world_folder.specs.declared.ending.Ending.{Ending}
 use Rattle.world_folder.specs.declared.found.WorldReport.{WorldReport}
-use Rattle.world_folder.specs.declared.lost.Doubtful.{Doubtful}
+use Rattle.world_folder.specs.declared.lost.Finding.{Finding}
+use Rattle.world_folder.specs.declared.lost.OnLoss.{OnLoss}
 use Rattle.world_server.specs.Serving.{EndsServing}
 use Rattle.world_server.specs.declared.line.Line.{Line}
 use Rattle.world_server.specs.declared.line.Line.TheVariants as line
@@ -33,10 +34,10 @@ use Rattle.world_server.specs.declared.served.WorldFailure.TheVariants as failur
 abbrev pub recovered_line : WorldReport → Line
 recovered_line world = line.Recovered world.tick world.from
 
--- the line of a log that may have been lost, if there is one
-abbrev pub doubtful_lines : Option Doubtful → List Line
-doubtful_lines None = []
-doubtful_lines (Some doubtful) = line.Doubtful doubtful ∷ []
+-- the line of what is found of a loss
+abbrev pub finding_lines : Option Finding → List Line
+finding_lines None = []
+finding_lines (Some finding) = line.Found finding ∷ []
 
 -- the line of a server that has stopped: how many ticks ended, and which is the greatest
 -- acknowledged one
@@ -111,15 +112,17 @@ module _ {D : Type 0} (file : D → List ℕ) (leaves : D → List ℕ → Type 
   LeavesWorld files (failure.NotOpened world left ending) = KeepsWorld files world.tick left
   LeavesWorld files (failure.NotRun world ending) = Unit {0}
 
--- The reason why a world isn't served: recovery refuses the files or one of them was lost, or its
--- start found no memory or a device failed. What else fails, the ending says.
-abbrev pub FailsFor : {D : Type 0} → (file : D → List ℕ) → (honest : Bool) → FourFiles D
+-- The reason why a world isn't served: recovery refuses the files, or one of them was lost and that
+-- is to be refused, or its start found no memory or a device failed. What else fails, the ending
+-- says.
+abbrev pub FailsFor : {D : Type 0} → (file : D → List ℕ) → (honest : Bool) → OnLoss → FourFiles D
     → WorldFailure D → Type 0
-FailsFor file honest files (failure.NotRecovered left why) = IsUnrecovered file honest files why
-FailsFor file honest files (failure.NotStarted world left refusal) =
+FailsFor file honest on_loss files (failure.NotRecovered left why) =
+    IsUnrecovered file honest on_loss files why
+FailsFor file honest on_loss files (failure.NotStarted world left refusal) =
     (refusal ≡ NoMemory) ⊎ (refusal ≡ Device)
-FailsFor file honest files (failure.NotOpened world left ending) = Unit {0}
-FailsFor file honest files (failure.NotRun world ending) = Unit {0}
+FailsFor file honest on_loss files (failure.NotOpened world left ending) = Unit {0}
+FailsFor file honest on_loss files (failure.NotRun world ending) = Unit {0}
 
 -- an open world that isn't served has its files again, unless workers have them
 abbrev pub GivesBack : {D : Type 0} → WorldReport → FourFiles D → WorldFailure D → Type 0

@@ -8,7 +8,7 @@ use client_service::Unserved;
 use disk_model::FourFiles;
 use std::path::PathBuf;
 use std::{fmt, io};
-use world_folder::{Doubtful, Reason, WorldFile};
+use world_folder::{Finding, Reason, WorldFile};
 
 /// A file whose call failed, and why.
 #[derive(Clone, Copy, Debug)]
@@ -26,8 +26,8 @@ pub enum Line {
         ended: u64,
         from: u64,
     },
-    /// This log may have been lost.
-    Doubtful(Doubtful),
+    /// This was found of the four files.
+    Found(Finding),
     Listening(u16),
     ListeningAtSocket,
     Stopped {
@@ -82,7 +82,7 @@ impl fmt::Display for Printed<'_> {
                 )
             }
             Line::Recovered { ended, from } => write!(f, "recovered {ended} from {from}"),
-            Line::Doubtful(doubtful) => write!(f, "{doubtful}"),
+            Line::Found(finding) => write!(f, "{finding}"),
             Line::Listening(port) => write!(f, "listening {port}"),
             Line::ListeningAtSocket => write!(f, "listening {}", self.paths.socket.as_str()),
             Line::Stopped { ended, acked } => write!(f, "stopped tick {ended} acked {acked}"),

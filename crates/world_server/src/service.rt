@@ -3,6 +3,7 @@ ghost use Rattle.std.specs.Prelude.{◌≡◌, IfSome, IfNone};
 use crate::socket::SocketMode;
 use client_service::Admission;
 use shared_capture::Kind;
+use world_folder::OnLoss;
 
 /// After how many ticks a round is due.
 #[derive(Clone, Copy, Debug, PartialEq, Eq)]
@@ -42,6 +43,7 @@ pub struct Service<'a> {
     pub exit_when_closed: Option<u32>,
     /// True if the program ends as soon as its log is down.
     pub exits_when_log_down: bool,
+    pub on_loss: OnLoss,
 }
 
 impl Service<'_> {

@@ -16,7 +16,7 @@ use std::alloc::Global;
 use std::net::{Net, TcpListener, TcpStream};
 use worker_threads::Seats;
 use world_actions::Refusal;
-use world_folder::{Ending, Fault, NotRecovered, failure_of, open_existing, stands_in};
+use world_folder::{Ending, Fault, NotRecovered, OnLoss, failure_of, open_existing, stands_in};
 
 /// Serves the world in a folder to so many clients. It prints which world was recovered, where it
 /// listens, and how far play came.
@@ -48,7 +48,7 @@ fn serve_by<
     let mut files = open_existing(rt, service.folder)?;
     let pace = pace_images(rt.alloc(), &mut files)?;
     let mut front = SystemFront::start(rt, service, pace)?;
-    let (every, admission) = (service.due_after(), service.admission());
+    let (every, admission, on_loss) = (service.due_after(), service.admission(), service.on_loss);
     let served = serve_world::<R, M, FileDisk, Lines<R>, SystemFront<'_, R>>(
         rt,
         rt.alloc(),
@@ -56,6 +56,7 @@ fn serve_by<
         files,
         every,
         admission,
+        on_loss,
     );
     let ending = ending_of(rt.alloc(), service.folder, served);
     Ok(front.finish(ending))
@@ -130,7 +131,7 @@ fn not_opened(alloc: Global, folder: &str, files: FourFiles<FileDisk>, refusal: 
         Refusal::NoImage | Refusal::BadImage | Refusal::BadLog => match read_files(
             alloc, &mut files,
         ) {
-            Ok(bytes) => match stands_in(alloc, &bytes) {
+            Ok(bytes) => match stands_in(alloc, &bytes, OnLoss::Warn) {
                 Ok(_) => Ending::Fault(refusal),
                 Err(fault) => Ending::NoWorld(fault),
             },

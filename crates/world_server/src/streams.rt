@@ -4,8 +4,8 @@ ghost use Rattle.world_folder.specs.Ending.{IsFault};
 ghost use Rattle.world_server.specs.Paths.{ArePathsIn, ArePathsOf};
 ghost use Rattle.world_server.specs.Serving.{EndsServing};
 
-use crate::line::Paths;
-use crate::printer::{Printer, StandardError, StandardOutput, start_printer};
+use crate::line::{Line, Paths, Printed};
+use crate::printer::{Printer, StandardError, StandardOutput, Stream, start_printer};
 use crate::service::{Address, Service};
 use crossbeam_channel::Receiver;
 use disk_model::FourFiles;
@@ -69,6 +69,48 @@ impl Streams {
         let printed = output.finish(rt, printed);
         let _ = errors.finish(rt, noted);
         heard(ending, printed)
+    }
+}
+
+/// Prints a line on standard output, at once if there is no thread for it.
+pub fn print_line<R: Wait + Print + AllocGlobal>(
+    rt: &R,
+    service: &Service<'_>,
+    streams: &Option<Streams>,
+    line: Line,
+) {
+    match streams {
+        Some(streams) => streams.output.print(rt, line),
+        None => print_at_once(rt, service, line),
+    }
+}
+
+/// Prints a line on standard error, at once if there is no thread for it.
+pub fn note_line<R: Wait + Eprint + AllocGlobal + Copy>(
+    rt: &R,
+    service: &Service<'_>,
+    streams: &Option<Streams>,
+    line: Line,
+) {
+    match streams {
+        Some(streams) => streams.errors.print(rt, line),
+        None => note_at_once(rt, service, line),
+    }
+}
+
+fn print_at_once<R: Print + AllocGlobal>(rt: &R, service: &Service<'_>, line: Line) {
+    if let Ok(paths) = paths_of(rt.alloc(), service) {
+        let printed = Printed {
+            line,
+            paths: &paths,
+        };
+        let _ = println!(rt; "{printed}");
+    }
+}
+
+fn note_at_once<R: Eprint + AllocGlobal + Copy>(rt: &R, service: &Service<'_>, line: Line) {
+    if let Ok(paths) = paths_of(rt.alloc(), service) {
+        let _ = StandardError { rt: *rt, paths }.print(line);
     }
 }
 

@@ -13,7 +13,7 @@ use crate::runtime::Runtime;
 use crate::service::{Address, Service};
 use crate::socket::listen_at;
 use crate::standing::{Losses, Standing};
-use crate::streams::Streams;
+use crate::streams::{Streams, note_line, print_line};
 use client_service::Pulse;
 use crossbeam_channel::Sender;
 use disk_model::Disk;
@@ -38,7 +38,9 @@ use world_folder::{Ending, NoPort, ServerEnding, opened};
 pub struct SystemFront<'a, R: Wait + Clock + Net + Files + Copy> {
     rt: R,
     service: Service<'a>,
-    streams: Streams,
+    /// Missing if the system gives no thread for them. Lines are then printed at once, and no
+    /// client is let in.
+    streams: Option<Streams>,
     standing: Arc<Standing, Global>,
     /// Takes the counts of the server, if its figures are printed.
     reports: Option<Sender<Arc<Pulse, Global>>>,
@@ -58,22 +60,20 @@ impl<
         let Ok(standing) = Arc::new(rt.alloc(), Standing::new()) else {
             return Err(Ending::Fault(Refusal::NoMemory));
         };
-        let streams = match Streams::start(rt, service) {
-            Ok(streams) => streams,
-            Err(reason) => return Err(not_started(reason)),
+        let (streams, reports) = match started(rt, service) {
+            Ok((streams, reports)) => (Some(streams), reports),
+            Err(NotStarted::NoThread) => (None, None),
+            Err(NotStarted::NoMemory) => return Err(Ending::Fault(Refusal::NoMemory)),
         };
-        match reported(rt, service.report, &streams) {
-            Ok(reports) => Ok(SystemFront {
-                rt: *rt,
-                service: *service,
-                streams,
-                standing,
-                reports,
-                place: None,
-                pace,
-            }),
-            Err(ending) => Err(streams.finish(rt, ending)),
-        }
+        Ok(SystemFront {
+            rt: *rt,
+            service: *service,
+            streams,
+            standing,
+            reports,
+            place: None,
+            pace,
+        })
     }
 
     /// Stops listening, waits until the lines have left, or for some seconds if a stream isn't
@@ -96,7 +96,10 @@ impl<
         if let Some(place) = place {
             place.leave(&rt);
         }
-        streams.finish(&rt, ending)
+        match streams {
+            Some(streams) => streams.finish(&rt, ending),
+            None => ending,
+        }
     }
 }
 
@@ -114,21 +117,16 @@ impl<
     ghost noted = { λ front. [] };
 
     fn print(&mut self, line: Line) {
-        self.streams.output.print(&self.rt, line);
+        print_line(&self.rt, &self.service, &self.streams, line);
     }
 
     fn note(&mut self, line: Line) {
-        self.streams.errors.print(&self.rt, line);
+        note_line(&self.rt, &self.service, &self.streams, line);
     }
 
     fn open(&mut self, opened: &Opened<M, FileDisk>) -> Result<(Listener, Lines<R>), Ending> {
-        let (listener, place) = listen(&self.rt, self.service.address)?;
-        self.place = Some(place.clone()?);
-        let pulse = pulse_for(&self.rt, &self.reports, opened)?;
-        let lines = lines_of(self, place, pulse, opened)?;
-        if self.service.every.is_none() {
-            self.streams.errors.print(&self.rt, Line::ManyImages);
-        }
+        let (listener, place, lines) = let_in(self, opened)?;
+        self.place = Some(place);
         Ok((listener, lines))
     }
 
@@ -137,16 +135,49 @@ impl<
     }
 }
 
+type LetIn<R> = (Listener, Arc<Place, Global>, Lines<R>);
+
+// Lets the clients of an open world in, if there are threads for the lines of its server.
+fn let_in<
+    R: Wait
+        + Clock
+        + Net<Listener = TcpListener, Stream = TcpStream>
+        + Files<File = File>
+        + AllocGlobal
+        + Copy,
+    M: Method,
+>(front: &SystemFront<'_, R>, world: &Opened<M, FileDisk>) -> Result<LetIn<R>, Ending>
+    ensures { IfErr result IsFault }
+{
+    let Some(streams) = &front.streams else {
+        return Err(Ending::Server(ServerEnding::NoThread));
+    };
+    let (listener, place) = listen(&front.rt, front.service.address)?;
+    match lines_of(front, streams, place.clone()?, world) {
+        Ok(lines) => {
+            if front.service.every.is_none() {
+                streams.errors.print(&front.rt, Line::ManyImages);
+            }
+            Ok((listener, place, lines))
+        }
+        Err(ending) => {
+            place.leave(&front.rt);
+            Err(ending)
+        }
+    }
+}
+
 // The lines of the server of an open world.
 fn lines_of<R: Wait + Clock + Net + Files + AllocGlobal + Copy, M: Method>(
     front: &SystemFront<'_, R>,
+    streams: &Streams,
     place: Arc<Place, Global>,
-    pulse: Option<Arc<Pulse, Global>>,
     world: &Opened<M, FileDisk>,
 ) -> Result<Lines<R>, Ending>
     ensures { IfErr result IsFault }
 {
     let alloc = front.rt.alloc();
+    let pulse = pulse_for(&front.rt, &front.reports, world)?;
     let files = kept_files(alloc, front.service.folder, &world.images, &world.log)?;
     let Ok(files) = Arc::new(alloc, files) else {
         return Err(Ending::Fault(Refusal::NoMemory));
@@ -155,8 +186,8 @@ fn lines_of<R: Wait + Clock + Net + Files + AllocGlobal + Copy, M: Method>(
         rt: front.rt,
         place,
         files,
-        output: front.streams.output.clone()?,
-        errors: front.streams.errors.clone()?,
+        output: streams.output.clone()?,
+        errors: streams.errors.clone()?,
         standing: front.standing.clone()?,
         exits_when_log_down: front.service.exits_when_log_down,
         exit_when_closed: front.service.exit_when_closed,
@@ -200,33 +231,19 @@ fn pulse_for<R: Wait + AllocGlobal, M: Method>(
     Ok(Some(pulse))
 }
 
-// Starts the thread that prints figures, if they are asked for.
-fn reported<R: Threads + Wait + Clock + AllocGlobal + Copy + Send + 'static>(
-    rt: &R,
-    seconds: u32,
-    streams: &Streams,
-) -> Result<Option<Sender<Arc<Pulse, Global>>>, Ending>
-    ensures { IfErr result IsFault }
-{
-    if seconds == 0 {
-        return Ok(None);
-    }
-    match start_reporter(rt, rt.alloc(), seconds, streams.errors.clone()?) {
-        Ok(reports) => Ok(Some(reports)),
-        Err(reason) => Err(not_started(reason)),
-    }
-}
+type Started = (Streams, Option<Sender<Arc<Pulse, Global>>>);
 
-// How the program ends if the threads of its streams can't be started.
-fn not_started(reason: NotStarted) -> Ending
-    ensures fault { IsFault result }
-    ensures memory { reason ≡ NotStarted.NoMemory → result ≡ Ending.Fault Refusal.NoMemory }
-    ensures thread { reason ≡ NotStarted.NoThread → result ≡ Ending.Server ServerEnding.NoThread }
-{
-    match reason {
-        NotStarted::NoMemory => Ending::Fault(Refusal::NoMemory),
-        NotStarted::NoThread => Ending::Server(ServerEnding::NoThread),
-    }
+// Starts the threads of the streams, and the one that prints figures if they are asked for.
+fn started<R: Threads + Wait + Clock + Print + Eprint + AllocGlobal + Copy + Send + 'static>(
+    rt: &R,
+    service: &Service<'_>,
+) -> Result<Started, NotStarted> {
+    let streams = Streams::start(rt, service)?;
+    let reports = match service.report {
+        0 => None,
+        seconds => Some(start_reporter(rt, rt.alloc(), seconds, streams.errors.clone()?)?),
+    };
+    Ok((streams, reports))
 }
 
 // A listener at this address, and its place.

@@ -1,5 +1,6 @@
 -- The grammar of the command line: its commands, and the rules of their arguments.
-use Rattle.std.specs.Prelude.{◌≡◌, ℕ, pos, List, [], ◌∷◌, Option, Some, true, false, map, codes}
+use Rattle.std.specs.Prelude.{◌≡◌, ℕ, pos, List, [], ◌∷◌, ◌++◌, Option, Some, true, false, map}
+use Rattle.std.specs.Prelude.{codes}
 use Rattle.clap.specs.Words.{Rule, Shape, app_of, groups_of, new_rule, rule_of}
 use Rattle.clap.specs.declared.builder.action.ArgAction.TheVariants.{Set, SetTrue}
 use Rattle.clap.specs.declared.builder.arg.Arg.{Arg}
@@ -67,15 +68,29 @@ HasArguments name rules groups command =
 abbrev pub folder_rule : Rule
 folder_rule = needed_rule (codes "dir")
 
+abbrev pub losses_rule : Rule
+losses_rule = flag_rule (codes "refuse-losses")
+
+-- the exit statuses, by one of their words
+abbrev pub statuses_rule : Option ValueParser → Rule
+statuses_rule words =
+    record (value_rule (codes "statuses")) { defaults = codes "plain" ∷ []; parser = words }
+
 abbrev pub create_rules : List Rule
 create_rules =
     folder_rule ∷ number_rule (codes "cells") 1 CELLS [] ∷ value_rule (codes "words") ∷ []
 
+abbrev pub report_rules : List Rule
+report_rules = folder_rule ∷ losses_rule ∷ []
+
 abbrev pub inspect_rules : List Rule
-inspect_rules = folder_rule ∷ flag_rule (codes "words") ∷ []
+inspect_rules = folder_rule ∷ flag_rule (codes "words") ∷ losses_rule ∷ []
 
 abbrev pub backup_rules : List Rule
-backup_rules = folder_rule ∷ needed_rule (codes "to") ∷ []
+backup_rules = folder_rule ∷ needed_rule (codes "to") ∷ losses_rule ∷ []
+
+abbrev pub salvage_rules : List Rule
+salvage_rules = folder_rule ∷ needed_rule (codes "to") ∷ []
 
 -- the method, by its word
 abbrev pub method_rule : Option ValueParser → Rule
@@ -93,13 +108,22 @@ serve_rules methods modes =
     ∷ needed_number_rule (codes "clients") 1 100_000 ∷ number_rule (codes "idle") 1 86_400 []
     ∷ number_rule (codes "report") 0 86_400 (codes "0" ∷ [])
     ∷ flag_rule (codes "exit-when-log-down")
-    ∷ number_rule (codes "exit-when-closed") 0 86_400 [] ∷ []
+    ∷ number_rule (codes "exit-when-closed") 0 86_400 [] ∷ losses_rule ∷ []
 
 abbrev pub method_words : List (List ℕ)
 method_words = method_word Zigzag ∷ method_word PingPong ∷ []
 
 abbrev pub mode_words : List (List ℕ)
 mode_words = mode_word Owner ∷ mode_word Group ∷ mode_word Everyone ∷ []
+
+abbrev pub status_words : List (List ℕ)
+status_words = codes "plain" ∷ codes "detailed" ∷ []
+
+-- the command of this name has arguments of these rules, and then that for its exit statuses
+abbrev pub HasStatuses : (name : List ℕ) → List Rule → List ArgGroup → Command → Type 0
+HasStatuses name rules groups command =
+    (words : Option ValueParser) × TakesWords status_words words
+    × HasArguments name (rules ++ statuses_rule words ∷ []) groups command
 
 -- the command `create`, of which exactly one of the number of cells and the words is wanted
 abbrev pub IsCreate : Command → Type 0
@@ -116,13 +140,43 @@ IsServe command =
     × IsChoiceOf (codes "address") (codes "port" ∷ codes "socket" ∷ []) address
     × HasArguments (codes "serve") (serve_rules methods modes) (address ∷ []) command)
 
+-- the parsers of the arguments whose values are words: of the exit statuses for each command
+pub record Parsers : Type 0 where
+  pub methods : Option ValueParser
+  pub modes : Option ValueParser
+  pub steps : Option ValueParser
+  pub create : Option ValueParser
+  pub recover : Option ValueParser
+  pub inspect : Option ValueParser
+  pub status : Option ValueParser
+  pub backup : Option ValueParser
+  pub salvage : Option ValueParser
+  pub serve : Option ValueParser
+
+-- each takes the words of its argument
+pub record AreParsers (words : Parsers) : Type 0 where
+  pub methods : TakesWords method_words words.methods
+  pub modes : TakesWords mode_words words.modes
+  pub steps : TakesWords status_words words.steps
+  pub create : TakesWords status_words words.create
+  pub recover : TakesWords status_words words.recover
+  pub inspect : TakesWords status_words words.inspect
+  pub status : TakesWords status_words words.status
+  pub backup : TakesWords status_words words.backup
+  pub salvage : TakesWords status_words words.salvage
+  pub serve : TakesWords status_words words.serve
+
 -- the commands, each with the rules of its arguments
-abbrev pub grammar : (methods modes : Option ValueParser) → List (List ℕ × List Rule)
-grammar methods modes =
-    (codes "steps", []) ∷ (codes "create", create_rules) ∷ (codes "recover", folder_rule ∷ [])
-    ∷ (codes "inspect", inspect_rules) ∷ (codes "status", folder_rule ∷ [])
-    ∷ (codes "backup", backup_rules)
-    ∷ (codes "salvage", backup_rules) ∷ (codes "serve", serve_rules methods modes) ∷ []
+abbrev pub grammar : Parsers → List (List ℕ × List Rule)
+grammar words =
+    (codes "steps", statuses_rule words.steps ∷ [])
+    ∷ (codes "create", create_rules ++ statuses_rule words.create ∷ [])
+    ∷ (codes "recover", report_rules ++ statuses_rule words.recover ∷ [])
+    ∷ (codes "inspect", inspect_rules ++ statuses_rule words.inspect ∷ [])
+    ∷ (codes "status", report_rules ++ statuses_rule words.status ∷ [])
+    ∷ (codes "backup", backup_rules ++ statuses_rule words.backup ∷ [])
+    ∷ (codes "salvage", salvage_rules ++ statuses_rule words.salvage ∷ [])
+    ∷ (codes "serve", serve_rules words.methods words.modes ++ statuses_rule words.serve ∷ []) ∷ []
 
 -- a command, with the rules of its arguments
 abbrev pub entry_of : Shape → List ℕ × List Rule
@@ -137,6 +191,4 @@ HasCommands commands command =
 -- one of the commands of the grammar is wanted
 abbrev pub HasGrammar : Command → Type 0
 HasGrammar command =
-    (methods modes : Option ValueParser) × TakesWords method_words methods
-    × TakesWords mode_words modes
-    × HasCommands (grammar methods modes) command
+    (words : Parsers) × AreParsers words × HasCommands (grammar words) command

@@ -8,7 +8,7 @@ use Rattle.worldd.specs.declared.invocation.Invocation.{Invocation}
 use Rattle.worldd.specs.declared.invocation.Invocation.TheVariants.{Steps, Create, CreateOfWords}
 use Rattle.worldd.specs.declared.invocation.Invocation.TheVariants.{Recover, Inspect, Status}
 use Rattle.worldd.specs.declared.invocation.Invocation.TheVariants.{BackUp, Salvage}
-use Rattle.worldd.specs.Values.{HasFlag, HasNumber}
+use Rattle.worldd.specs.Values.{HasFlag, HasNumber, refuses}
 
 -- the words are of this command, and these are its values
 abbrev pub IsCommand : ArgMatches → (name : List ℕ) → Found → Type 0
@@ -37,16 +37,20 @@ AsksTo name found (Create folder cells) =
 AsksTo name found (CreateOfWords folder words) =
     (name ≡ codes "create") × (first_value found (codes "dir") ≡ Some folder.now)
     × (first_value found (codes "words") ≡ Some words.now)
-AsksTo name found (Recover folder) =
+AsksTo name found (Recover folder on_loss) =
     (name ≡ codes "recover") × (first_value found (codes "dir") ≡ Some folder.now)
-AsksTo name found (Inspect folder words) =
+    × HasFlag found (codes "refuse-losses") (refuses on_loss)
+AsksTo name found (Inspect folder words on_loss) =
     (name ≡ codes "inspect") × (first_value found (codes "dir") ≡ Some folder.now)
     × HasFlag found (codes "words") words
-AsksTo name found (Status folder) =
+    × HasFlag found (codes "refuse-losses") (refuses on_loss)
+AsksTo name found (Status folder on_loss) =
     (name ≡ codes "status") × (first_value found (codes "dir") ≡ Some folder.now)
-AsksTo name found (BackUp folder to) =
+    × HasFlag found (codes "refuse-losses") (refuses on_loss)
+AsksTo name found (BackUp folder to on_loss) =
     (name ≡ codes "backup") × (first_value found (codes "dir") ≡ Some folder.now)
     × (first_value found (codes "to") ≡ Some to.now)
+    × HasFlag found (codes "refuse-losses") (refuses on_loss)
 AsksTo name found (Salvage folder to) =
     (name ≡ codes "salvage") × (first_value found (codes "dir") ≡ Some folder.now)
     × (first_value found (codes "to") ≡ Some to.now)

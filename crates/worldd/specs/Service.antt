@@ -7,7 +7,7 @@ use Rattle.world_server.specs.declared.service.Address.{Address}
 use Rattle.world_server.specs.declared.service.Address.TheVariants.{Port, Socket}
 use Rattle.world_server.specs.Methods.{method_word}
 use Rattle.world_server.specs.Socket.{mode_word}
-use Rattle.worldd.specs.Values.{HasFlag, HasNumber}
+use Rattle.worldd.specs.Values.{HasFlag, HasNumber, refuses}
 
 -- the values ask for this address: for the socket's, if one is named
 abbrev pub AsksForAddress : Found → Address → Type 0
@@ -31,3 +31,4 @@ pub record AsksFor (found : Found) (service : Service) : Type 0 where
   pub closed : IfSome service.exit_when_closed (HasNumber 32 found (codes "exit-when-closed"))
   pub not_closed : IfNone service.exit_when_closed
       ((number : ℕ) → HasNumber 32 found (codes "exit-when-closed") number → ⊥)
+  pub on_loss : HasFlag found (codes "refuse-losses") (refuses service.on_loss)

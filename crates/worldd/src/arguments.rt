@@ -1,12 +1,19 @@
-ghost use Rattle.std.specs.Prelude.{ℕ, map, string_bytes, IfOk, IfSome, IfNone, [], ◌∷◌, codes};
+ghost use Rattle.std.specs.Prelude.{◌≡◌, ◌⊎◌, ℕ, List, None, map, string_bytes, IfOk, IfSome};
+ghost use Rattle.std.specs.Prelude.{IfNone, [], ◌∷◌, codes};
 ghost use Rattle.clap.specs.Words.{app_of, found_of, HasMatchesOf, IsParsedFrom};
+ghost use Rattle.clap.specs.Words.{Rule, subcommand_name_of};
+ghost use Rattle.clap.specs.declared.builder.arg_group.ArgGroup.{ArgGroup as Group};
+ghost use Rattle.clap.specs.declared.parser.matches.Found.{Found};
 ghost use Rattle.clap.specs.declared.builder.command.Command.{Command as WordsCommand};
 ghost use Rattle.world_actions.specs.declared.world.TheConstants.{CELLS as world_cells};
 ghost use Rattle.worldd.specs.Grammar.{value_rule, needed_rule, number_rule, flag_rule};
-ghost use Rattle.worldd.specs.Grammar.{folder_rule, inspect_rules, backup_rules};
+ghost use Rattle.worldd.specs.Grammar.{folder_rule, losses_rule, statuses_rule, status_words};
+ghost use Rattle.worldd.specs.Grammar.{report_rules, inspect_rules, backup_rules, salvage_rules};
+ghost use Rattle.worldd.specs.Grammar.{HasStatuses, IsChoice};
 ghost use Rattle.worldd.specs.Grammar.{IsArgument, IsChoiceOf, IsCreate, HasArguments};
 ghost use Rattle.worldd.specs.Grammar.{HasCommands, HasGrammar};
-ghost use Rattle.worldd.specs.Values.{HasNumber};
+ghost use Rattle.worldd.specs.Invocation.{IsCommand};
+ghost use Rattle.worldd.specs.Values.{AsksForStatuses, HasFlag, HasNumber, refuses};
 
 use crate::help::{
     BACKUP_HELP, CREATE_HELP, INSPECT_HELP, RECOVER_HELP, SALVAGE_HELP, STATUS_HELP, STEPS_HELP,
@@ -16,6 +23,7 @@ use clap::error::Error;
 use clap::{Arg, ArgAction, ArgGroup, ArgMatches, Command, value_parser};
 use command_line::VERSION_WITH_FORMATS;
 use std::alloc::{AllocError, Global};
+use world_folder::{OnLoss, Statuses};
 
 /// The name of the argument for a folder.
 pub const FOLDER: &str = "dir";
@@ -28,6 +36,12 @@ pub const WORDS: &str = "words";
 
 /// The name of the argument for the folder of a copy.
 pub const TO: &str = "to";
+
+/// The name of the argument for the exit statuses.
+const STATUSES: &str = "statuses";
+
+/// The name of the flag by which a loss is refused.
+const REFUSE_LOSSES: &str = "refuse-losses";
 
 /// The name of the group of the number of cells and the words.
 const CONTENT: &str = "content";
@@ -51,14 +65,29 @@ fn commands<'a>(alloc: Global) -> Result<Command<'a>, AllocError>
     ensures { IfOk result HasGrammar }
 {
     no_command(alloc)
-        .subcommand(steps_command(alloc))?
-        .subcommand(create_command(alloc)?)?
-        .subcommand(folder_command(alloc, "recover", RECOVER_ABOUT, RECOVER_HELP)?)?
-        .subcommand(inspect_command(alloc)?)?
-        .subcommand(folder_command(alloc, "status", STATUS_ABOUT, STATUS_HELP)?)?
-        .subcommand(backup_command(alloc)?)?
-        .subcommand(salvage_command(alloc)?)?
-        .subcommand(serve_command(alloc)?)
+        .subcommand(with_statuses(alloc, steps_command(alloc))?)?
+        .subcommand(with_statuses(alloc, create_command(alloc)?)?)?
+        .subcommand(with_statuses(
+            alloc,
+            report_command(alloc, "recover", RECOVER_ABOUT, RECOVER_HELP)?,
+        )?)?
+        .subcommand(with_statuses(alloc, inspect_command(alloc)?)?)?
+        .subcommand(with_statuses(
+            alloc,
+            report_command(alloc, "status", STATUS_ABOUT, STATUS_HELP)?,
+        )?)?
+        .subcommand(with_statuses(alloc, backup_command(alloc)?)?)?
+        .subcommand(with_statuses(alloc, salvage_command(alloc)?)?)?
+        .subcommand(with_statuses(alloc, serve_command(alloc)?)?)
+}
+
+// A command with the argument for its exit statuses after its others.
+fn with_statuses<'a>(alloc: Global, command: Command<'a>) -> Result<Command<'a>, AllocError>
+    ensures { (name : List ℕ) (rules : List Rule) (groups : List Group)
+        → HasArguments name rules groups command.entry
+        → IfOk result (HasStatuses name rules groups) }
+{
+    command.arg(statuses_argument(alloc))
 }
 
 // The program's words, of no command yet.
@@ -94,6 +123,18 @@ pub fn folder_command<'a>(
         .arg(folder_argument(alloc))
 }
 
+// A command that reports on the world in a folder.
+fn report_command<'a>(
+    alloc: Global,
+    name: &'a str,
+    about: &'a str,
+    after_help: &'a str,
+) -> Result<Command<'a>, AllocError>
+    ensures { IfOk result (HasArguments name.entry.now report_rules []) }
+{
+    folder_command(alloc, name, about, after_help)?.arg(losses_argument(alloc))
+}
+
 fn create_command<'a>(alloc: Global) -> Result<Command<'a>, AllocError>
     ensures { IfOk result IsCreate }
 {
@@ -116,18 +157,22 @@ fn inspect_command<'a>(alloc: Global) -> Result<Command<'a>, AllocError>
     ensures { IfOk result (HasArguments (codes "inspect") inspect_rules []) }
 {
     let about = "Prints what each file of a folder holds, and which world they hold together";
-    folder_command(alloc, "inspect", about, INSPECT_HELP)?.arg(words_argument(alloc))
+    folder_command(alloc, "inspect", about, INSPECT_HELP)?
+        .arg(words_argument(alloc))?
+        .arg(losses_argument(alloc))
 }
 
 fn backup_command<'a>(alloc: Global) -> Result<Command<'a>, AllocError>
     ensures { IfOk result (HasArguments (codes "backup") backup_rules []) }
 {
     let about = "Copies the world in a folder, also while it is served";
-    folder_command(alloc, "backup", about, BACKUP_HELP)?.arg(to_argument(alloc))
+    folder_command(alloc, "backup", about, BACKUP_HELP)?
+        .arg(to_argument(alloc))?
+        .arg(losses_argument(alloc))
 }
 
 fn salvage_command<'a>(alloc: Global) -> Result<Command<'a>, AllocError>
-    ensures { IfOk result (HasArguments (codes "salvage") backup_rules []) }
+    ensures { IfOk result (HasArguments (codes "salvage") salvage_rules []) }
 {
     let about = "Makes a world of what can be read of damaged or lost files";
     folder_command(alloc, "salvage", about, SALVAGE_HELP)?.arg(to_argument(alloc))
@@ -188,6 +233,56 @@ fn words_argument<'a>(alloc: Global) -> Arg<'a>
 {
     let help = "Prints the words of the world too, on a line of their own";
     flag_argument(alloc, WORDS, help)
+}
+
+// The argument for the exit statuses.
+fn statuses_argument<'a>(alloc: Global) -> Arg<'a>
+    ensures { IsChoice statuses_rule status_words result }
+{
+    let help = "Whether a shortage and a failed listener have statuses of their own, 13 and 10";
+    value_argument(alloc, STATUSES, "WHICH", help)
+        .default_value("plain")
+        .value_parser(["plain", "detailed"].as_slice())
+}
+
+/// The flag by which a loss is refused.
+pub fn losses_argument<'a>(alloc: Global) -> Arg<'a>
+    ensures { IsArgument losses_rule result }
+{
+    let help = "Refuses files that look as if one was lost; they are only named by default";
+    flag_argument(alloc, REFUSE_LOSSES, help)
+}
+
+/// The treatment of a loss.
+pub fn on_loss_of(given: &ArgMatches<'_>) -> OnLoss
+    ensures { HasFlag (found_of given.now) (codes "refuse-losses") (refuses result) }
+{
+    if given.get_flag(REFUSE_LOSSES) {
+        OnLoss::Refuse
+    } else {
+        OnLoss::Warn
+    }
+}
+
+/// The exit statuses that the words ask for.
+pub fn statuses_of(matches: &ArgMatches<'_>) -> Statuses
+    ensures { ((subcommand_name_of matches.now ≡ None) × (result ≡ Statuses.Plain))
+        ⊎ ((name : List ℕ) × (found : Found)
+        × IsCommand matches.now name found × AsksForStatuses found result) }
+{
+    match matches.subcommand() {
+        Some((_, given)) => statuses_in(given),
+        None => Statuses::Plain,
+    }
+}
+
+fn statuses_in(given: &ArgMatches<'_>) -> Statuses
+    ensures { AsksForStatuses (found_of given.now) result }
+{
+    match given.get_str(STATUSES) {
+        Some("detailed") => Statuses::Detailed,
+        _ => Statuses::Plain,
+    }
 }
 
 /// The number of this name, if it has one.

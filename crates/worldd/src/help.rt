@@ -41,8 +41,8 @@ It creates the missing ones of image.a, image.b, log.a and log.b, writes a world
 cells, all 0, into them, and prints `created N`. A file that is closed, by its first
 byte, is overwritten: use a folder for this world only. With --words the cells have the
 words that FILE lists: numbers from 0 to 999999999999999999, with a space or a newline
-between them, as `inspect --words` prints them. After a fault the status is 1, or 13 if
-memory or room is wanting, and the first line on standard error is `fault CODE`:
+between them, as `inspect --words` prints them. After a fault the status is 1, and the
+first line on standard error is `fault CODE`:
   16 FILE lists no world: the line is named, and nothing was made,
   17 there is no memory, 18 a file can't be opened or written, is no ordinary file of
   its own, or another program writes this world, 22 a file may hold a world: nothing
@@ -52,9 +52,11 @@ memory or room is wanting, and the first line on standard error is `fault CODE`:
 pub const RECOVER_HELP: &str = "\
 It reads image.a, image.b, log.a and log.b, writes nothing and locks nothing, and prints
 `recovered N from T`: they hold the world after tick N, built from the image of tick T.
-On standard error it names a log that is empty at tick 0, and so may have been lost.
-If they hold no world the status is 1, or 13 if memory is wanting, and the first line on
-standard error is `fault CODE`:
+A file that is empty beside an image of a later tick than 0, or a log that begins after
+tick N, was lost. It is named on standard error, or refused with --refuse-losses. With
+that flag a log that is empty beside an image of tick 0 is named.
+If they hold no world the status is 1, and the first line on standard error is
+`fault CODE`:
   13 no image is open, 14 an image is damaged or lost, 15 the log is damaged or lost,
   17 there is no memory, 18 a file is missing or can't be read";
 
@@ -90,9 +92,10 @@ pub const BACKUP_HELP: &str = "\
 It copies the newest image and the log of a world, also while a server writes them, and
 locks nothing. It recovers the copy, makes it durable, and prints `backed up N from T`:
 the copy holds the world after tick N, built from the image of tick T. It has every tick
-that was answered before it began. It makes no folder. After a fault the status is 1, or
-13 if memory or room is wanting, and the first line on standard error is `fault CODE`:
-  13 no image is open, 14 an image is damaged, 15 the log is damaged,
+that was answered before it began. It makes no folder, and names or refuses what was
+lost as `recover` does. After a fault the status is 1, and the first line on standard
+error is `fault CODE`:
+  13 no image is open, 14 an image is damaged or lost, 15 the log is damaged or lost,
   17 there is no memory, 18 a file is missing, can't be read or written, or a server
   began a new image under each of 1000 tries, 22 the folder of the copy isn't empty";
 
@@ -102,8 +105,8 @@ It makes a world in an empty folder of what can be read of files that `recover` 
 and writes nothing into theirs. A bad image is left out, a log is cut after its last
 whole group whose actions can be played again, and a lost file counts as closed. It
 prints what it took of each file, and `salvaged N from T`: the new files hold the world
-after tick N. Later ticks are lost. After a fault the status is 1, or 13 if memory or
-room is wanting, and the first line on standard error is `fault CODE`:
+after tick N. Later ticks are lost. After a fault the status is 1, and the first line on
+standard error is `fault CODE`:
   13 no image can be read, 17 there is no memory, 18 a file can't be read or written,
   22 the folder of the new files isn't empty";
 
@@ -127,6 +130,7 @@ It prints, each line at once:
                             not after an end by one of the two flags --exit-when-..
 On standard error it prints, and drops lines that nobody reads:
   worldd: an image every 64 ticks can halve the speed: give --every, for example 4096
+  worldd: FILE is empty, so it was lost        or: begins after ticks that were lost
   worldd: FILE is empty: if this world was played, its ticks are lost
   worldd: image of tick T opened
   worldd: images down: FILE: REASON            play continues without images
@@ -142,10 +146,10 @@ On standard error it prints, and drops lines that nobody reads:
       ticks have ended, those up to A were answered, the newest image is of tick I,
       S clients play, W batches wait
   worldd: lines dropped: COUNT                 nobody read them
-Its status is 0; 12 if the log is down, else 11 if images are, else 10 if the listener
-failed; 2 for a wrong command line; 13 if memory, threads or room on the disk is wanting;
-else 1. After 1 and 13 standard error has `fault CODE`:
-  13 no image is open, 14 an image is damaged, 15 the log is damaged,
+Its status is 0; 12 if the log is down, else 11 if images are; 2 for a wrong command
+line; else 1. With detailed statuses it is 10 if the listener failed, and 13 if memory,
+threads or room on the disk is wanting. After 1 and 13 standard error has `fault CODE`:
+  13 no image is open, 14 an image is damaged or lost, 15 the log is damaged or lost,
   17 there is no memory, or no thread for the server, 18 a file is missing, fails or is
   no ordinary file of its own, another program writes this world, the port or the socket
   can't be listened on, or a line couldn't be printed";

@@ -5,8 +5,9 @@ ghost use Rattle.clap.specs.Words.{first_value, found_of, subcommand_name_of};
 ghost use Rattle.worldd.specs.declared.invocation.Invocation.{Invocation as AnInvocation};
 ghost use Rattle.worldd.specs.Invocation.{IsCommand, IsPossible, AsksForCells, AsksTo};
 
-use crate::arguments::{CELLS, FOLDER, TO, WORDS, number_of};
+use crate::arguments::{CELLS, FOLDER, TO, WORDS, number_of, on_loss_of};
 use clap::ArgMatches;
+use world_folder::OnLoss;
 
 /// The work of a command, except of `serve`.
 #[derive(Clone, Copy, Debug)]
@@ -14,15 +15,38 @@ pub enum Invocation<'a> {
     /// Runs a script over a world in memory.
     Steps,
     /// Makes a world of so many cells.
-    Create { folder: &'a str, cells: u32 },
+    Create {
+        folder: &'a str,
+        cells: u32,
+    },
     /// Makes a world of the words in a file.
-    CreateOfWords { folder: &'a str, words: &'a str },
-    Recover { folder: &'a str },
+    CreateOfWords {
+        folder: &'a str,
+        words: &'a str,
+    },
+    Recover {
+        folder: &'a str,
+        on_loss: OnLoss,
+    },
     /// Its words are printed too if that is asked for.
-    Inspect { folder: &'a str, words: bool },
-    Status { folder: &'a str },
-    BackUp { folder: &'a str, to: &'a str },
-    Salvage { folder: &'a str, to: &'a str },
+    Inspect {
+        folder: &'a str,
+        words: bool,
+        on_loss: OnLoss,
+    },
+    Status {
+        folder: &'a str,
+        on_loss: OnLoss,
+    },
+    BackUp {
+        folder: &'a str,
+        to: &'a str,
+        on_loss: OnLoss,
+    },
+    Salvage {
+        folder: &'a str,
+        to: &'a str,
+    },
 }
 
 /// The work that the words ask for, if the command isn't `serve`.
@@ -51,15 +75,23 @@ fn invocation_in<'a>(name: &str, given: &ArgMatches<'a>) -> Option<Invocation<'a
     let folder = given.get_str(FOLDER)?;
     match name {
         "create" => creation_in(folder, given),
-        "recover" => Some(Invocation::Recover { folder }),
+        "recover" => Some(Invocation::Recover {
+            folder,
+            on_loss: on_loss_of(given),
+        }),
         "inspect" => Some(Invocation::Inspect {
             folder,
             words: given.get_flag(WORDS),
+            on_loss: on_loss_of(given),
         }),
-        "status" => Some(Invocation::Status { folder }),
+        "status" => Some(Invocation::Status {
+            folder,
+            on_loss: on_loss_of(given),
+        }),
         "backup" => Some(Invocation::BackUp {
             folder,
             to: given.get_str(TO)?,
+            on_loss: on_loss_of(given),
         }),
         "salvage" => {
             let to = given.get_str(TO)?;

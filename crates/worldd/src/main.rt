@@ -6,10 +6,10 @@
 //! of what can be read of damaged files. `serve` serves the world of a folder to clients of a port
 //! or of a socket.
 //!
-//! The status is 0 if the run ended well, and 2 for a wrong command line. It is 1 after a fault,
-//! and 13 after one by a shortage of memory, threads or room on a disk: standard error then has
-//! `fault CODE`, and the reason on the next line. A server ends with 12 if its log is down, with 11
-//! if its images are, and with 10 if its listener failed.
+//! The status is 0 if the run ended well, 2 for a wrong command line, and 1 after a fault. Standard
+//! error then has `fault CODE`, and the reason on the next line. A server ends with 12 if its log
+//! is down, and with 11 if its images are. With `--statuses detailed` it is 13 after a fault by a
+//! shortage of memory, threads or room on a disk, and 10 of a server whose listener failed.
 #![tactic(auto)]
 
 ghost use Rattle.std.specs.Prelude.{◌≡◌, IfSome, IfNone};
@@ -22,7 +22,7 @@ mod invocation;
 mod serve_arguments;
 mod streams;
 
-use arguments::matches_of;
+use arguments::{matches_of, statuses_of};
 use command_line::{NotRun, command_words, refused, take_standard_streams, unreadable};
 use invocation::{Invocation, invocation_of};
 use serve_arguments::service_of;
@@ -31,27 +31,30 @@ use std::io;
 use std::time::Clock;
 use streams::run_steps;
 use world_actions::Refusal;
-use world_folder::{Ending, Stream, StreamFailure, create, create_of_words, opened};
+use world_folder::{Ending, Exit, Stream, StreamFailure, create, create_of_words, opened};
 use world_reports::{back_up, inspect, recover, salvage_world, status};
 use world_server::serve;
 
-fn main(rt: HostRuntime) -> Ending {
+fn main(rt: HostRuntime) -> Exit {
     // Before a file of a world: it must not get the descriptor of a standard stream that is closed.
     let null = opened(rt.alloc(), "/dev", "null", take_standard_streams(&rt));
     let _null = match null {
         Ok(null) => null,
-        Err(ending) => return ending,
+        Err(ending) => return Exit::plain(ending),
     };
     let words = match command_words(&rt) {
         Ok(words) => words,
-        Err(error) => return not_run(unreadable(&rt, &error)),
+        Err(error) => return Exit::plain(not_run(unreadable(&rt, &error))),
     };
     match matches_of(rt.alloc(), &words) {
-        Ok(matches) => match service_of(&matches) {
-            Some(service) => serve(&rt, &service),
-            None => run(&rt, invocation_of(&matches)),
+        Ok(matches) => Exit {
+            ending: match service_of(&matches) {
+                Some(service) => serve(&rt, &service),
+                None => run(&rt, invocation_of(&matches)),
+            },
+            statuses: statuses_of(&matches),
         },
-        Err(error) => not_run(refused(&rt, &error)),
+        Err(error) => Exit::plain(not_run(refused(&rt, &error))),
     }
 }
 
@@ -72,10 +75,20 @@ fn run<R: Input + Print + Eprint + Clock + Files<File = File> + AllocGlobal + Cl
         Invocation::CreateOfWords { folder, words } => {
             Ending::of_command(create_of_words(rt, folder, words))
         }
-        Invocation::Recover { folder } => Ending::of_command(recover(rt, folder)),
-        Invocation::Inspect { folder, words } => Ending::of_command(inspect(rt, folder, words)),
-        Invocation::Status { folder } => Ending::of_command(status(rt, folder)),
-        Invocation::BackUp { folder, to } => Ending::of_command(back_up(rt, folder, to)),
+        Invocation::Recover { folder, on_loss } => {
+            Ending::of_command(recover(rt, folder, on_loss))
+        }
+        Invocation::Inspect {
+            folder,
+            words,
+            on_loss,
+        } => Ending::of_command(inspect(rt, folder, words, on_loss)),
+        Invocation::Status { folder, on_loss } => Ending::of_command(status(rt, folder, on_loss)),
+        Invocation::BackUp {
+            folder,
+            to,
+            on_loss,
+        } => Ending::of_command(back_up(rt, folder, to, on_loss)),
         Invocation::Salvage { folder, to } => Ending::of_command(salvage_world(rt, folder, to)),
     }
 }

@@ -14,7 +14,9 @@ ghost use Rattle.worldd.specs.Invocation.{IsCommand};
 ghost use Rattle.worldd.specs.Service.{AsksFor, AsksForAddress};
 ghost use Rattle.worldd.specs.Values.{HasNumber};
 
-use crate::arguments::{FOLDER, flag_argument, folder_command, number_of, value_argument};
+use crate::arguments::{
+    FOLDER, flag_argument, folder_command, losses_argument, number_of, on_loss_of, value_argument,
+};
 use crate::help::SERVE_HELP;
 use clap::error::Error;
 use clap::{Arg, ArgGroup, ArgMatches, Command, value_parser};
@@ -65,6 +67,7 @@ pub fn serve_command<'a>(alloc: Global) -> Result<Command<'a>, AllocError>
         .arg(report_argument(alloc))?
         .arg(exit_argument(alloc))?
         .arg(closed_argument(alloc))?
+        .arg(losses_argument(alloc))?
         .group(address_group(alloc)?)
 }
 
@@ -219,6 +222,7 @@ fn service_in<'a>(given: &ArgMatches<'a>) -> Option<Service<'a>>
         report: number_of(given, REPORT)?,
         exit_when_closed: number_of(given, EXIT_WHEN_CLOSED),
         exits_when_log_down: given.get_flag(EXIT_WHEN_LOG_DOWN),
+        on_loss: on_loss_of(given),
     })
 }
 

@@ -1,5 +1,6 @@
 use super::not_run;
-use crate::arguments::matches_of;
+use crate::arguments::{matches_of, statuses_of};
+use crate::invocation::{Invocation, invocation_of};
 use crate::serve_arguments::service_of;
 use clap::error::Error;
 use command_line::{refused, unreadable};
@@ -11,7 +12,7 @@ use std::io::{self, ErrorKind};
 use std::process::{ExitCode, Termination};
 use std::test::Fail;
 use world_actions::Refusal;
-use world_folder::{Ending, ServerEnding};
+use world_folder::{Ending, Exit, OnLoss, ServerEnding, Statuses};
 use world_server::{Clients, Every};
 
 // Keeps all that is printed.
@@ -81,29 +82,42 @@ impl Eprint for Desk {
 }
 
 // The status that an ending reports, and what it prints as errors.
-fn reported(alloc: Global, ending: Ending) -> (ExitCode, String) {
+fn reported(alloc: Global, ending: Ending, statuses: Statuses) -> (ExitCode, String) {
     let desk = Desk::new(alloc);
-    let status = ending.report(&desk);
+    let status = Exit { ending, statuses }.report(&desk);
     let (_, errors) = desk.printed();
     (status, errors)
 }
 
 #[test]
 fn faults_are_reported_by_code_and_in_words(rt: HostRuntime) {
-    for (refusal, code, text) in [
+    for (refusal, statuses, code, text) in [
         (
             Refusal::BadCell,
+            Statuses::Detailed,
             1,
             "fault 1\nworldd: there is no such cell: cells are numbered from 0 to the number of cells less 1\n",
         ),
         (
             Refusal::NoMemory,
+            Statuses::Plain,
+            1,
+            "fault 17\nworldd: there is no memory left\n",
+        ),
+        (
+            Refusal::NoMemory,
+            Statuses::Detailed,
             13,
             "fault 17\nworldd: there is no memory left\n",
         ),
-        (Refusal::Device, 1, "fault 18\nworldd: the device failed\n"),
+        (
+            Refusal::Device,
+            Statuses::Detailed,
+            1,
+            "fault 18\nworldd: the device failed\n",
+        ),
     ] {
-        let (status, errors) = reported(rt.alloc(), Ending::Fault(refusal));
+        let (status, errors) = reported(rt.alloc(), Ending::Fault(refusal), statuses);
         assert!(rt;
             status == ExitCode::from(code) && errors.as_str() == text,
             "{errors}"
@@ -113,17 +127,78 @@ fn faults_are_reported_by_code_and_in_words(rt: HostRuntime) {
 
 #[test]
 fn what_is_down_is_reported_by_the_status(rt: HostRuntime) {
-    for (ending, code) in [
-        (ServerEnding::ListenerFailed, 10),
-        (ServerEnding::ImagesDown, 11),
-        (ServerEnding::LogDown, 12),
+    for (ending, statuses, code, text) in [
+        (
+            ServerEnding::ListenerFailed,
+            Statuses::Plain,
+            1,
+            "fault 18\nworldd: the listener failed\n",
+        ),
+        (ServerEnding::ListenerFailed, Statuses::Detailed, 10, ""),
+        (ServerEnding::ImagesDown, Statuses::Plain, 11, ""),
+        (ServerEnding::LogDown, Statuses::Plain, 12, ""),
     ] {
-        let (status, errors) = reported(rt.alloc(), Ending::Server(ending));
+        let (status, errors) = reported(rt.alloc(), Ending::Server(ending), statuses);
         assert!(rt;
-            status == ExitCode::from(code) && errors.is_empty(),
+            status == ExitCode::from(code) && errors.as_str() == text,
             "{errors}"
         );
     }
+}
+
+// What a command line asks for: about a loss, if a command of one reads it, and the exit statuses.
+fn on_loss_and_statuses(alloc: Global, line: &[&str]) -> Result<(Option<OnLoss>, Statuses), Fail> {
+    let words = words(alloc, line)?;
+    let matches = matches_of(alloc, &words)?;
+    let on_loss = match (service_of(&matches), invocation_of(&matches)) {
+        (Some(service), _) => Some(service.on_loss),
+        (None, Some(Invocation::Recover { on_loss, .. })) => Some(on_loss),
+        (None, Some(Invocation::Status { on_loss, .. })) => Some(on_loss),
+        (None, Some(Invocation::Inspect { on_loss, .. })) => Some(on_loss),
+        (None, Some(Invocation::BackUp { on_loss, .. })) => Some(on_loss),
+        _ => None,
+    };
+    Ok((on_loss, statuses_of(&matches)))
+}
+
+const STATUSES_OF_STEPS: [&str; 4] = ["worldd", "steps", "--statuses", "detailed"];
+
+const RECOVER: [&str; 7] = [
+    "worldd",
+    "recover",
+    "--dir",
+    "d",
+    "--refuse-losses",
+    "--statuses",
+    "detailed",
+];
+
+const BACKUP: [&str; 7] = [
+    "worldd",
+    "backup",
+    "--dir",
+    "d",
+    "--to",
+    "e",
+    "--refuse-losses",
+];
+
+#[test]
+fn flags_on_losses_and_statuses_are_read(rt: HostRuntime) -> Result<(), Fail> {
+    for (line, on_loss, statuses) in [
+        (&RECOVER[..4], Some(OnLoss::Warn), Statuses::Plain),
+        (&RECOVER[..5], Some(OnLoss::Refuse), Statuses::Plain),
+        (&RECOVER[..], Some(OnLoss::Refuse), Statuses::Detailed),
+        (&BACKUP[..6], Some(OnLoss::Warn), Statuses::Plain),
+        (&BACKUP[..], Some(OnLoss::Refuse), Statuses::Plain),
+        (&LEAST[..], Some(OnLoss::Warn), Statuses::Plain),
+        (&STATUSES_OF_STEPS[..2], None, Statuses::Plain),
+        (&STATUSES_OF_STEPS[..], None, Statuses::Detailed),
+    ] {
+        let asked = on_loss_and_statuses(rt.alloc(), line)?;
+        assert_eq!(rt; asked, (on_loss, statuses));
+    }
+    Ok(())
 }
 
 // The text for words that can't be read, and whether they end as mistaken.

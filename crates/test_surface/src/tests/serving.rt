@@ -6,6 +6,7 @@ use std::sync::Wait;
 use std::thread::Threads;
 use std::time::Clock;
 use worker_threads::{Seats, Watch};
+use world_folder::OnLoss;
 use world_server::{Every, Front, Served, WorldFailure, serve_tcp};
 
 // Serves the world of four files to the clients of a front.
@@ -22,6 +23,7 @@ fn serve<
     files: FourFiles<D>,
     every: Every,
     admission: Admission,
+    on_loss: OnLoss,
 ) -> Result<Served<M, D>, WorldFailure<D>> {
-    serve_tcp(rt, alloc, front, files, every, admission)
+    serve_tcp(rt, alloc, front, files, every, admission, on_loss)
 }

@@ -14,7 +14,7 @@ not_both : (b : Bool) → b ≡ false → IsTrue b → ⊥
 not_both b is_false is_true = (let h : true ≡ false = sym is_true ∙ is_false in absurd cc)
 
 pub returns-then-b : goal.returns-then-b
-returns-then-b c = (
+returns-then-b c = λ on_loss. (
   c.requires,
   reported_of c.is_bad_segment-a.result c.deref.result.now c.args.files.now.log_a.items c.deref.ensures.value c.is_bad_segment-a.ensures,
   reported_of c.is_bad_segment-b.result c.deref-2.result.now c.args.files.now.log_b.items c.deref-2.ensures.value c.is_bad_segment-b.ensures,
@@ -22,7 +22,7 @@ returns-then-b c = (
 )
 
 pub returns-else-b : goal.returns-else-b
-returns-else-b c =
+returns-else-b c = λ on_loss.
     let a = reported_of c.is_bad_segment-a.result c.deref.result.now c.args.files.now.log_a.items c.deref.ensures.value c.is_bad_segment-a.ensures in
     let b = reported_of c.is_bad_segment-b.result c.deref-2.result.now c.args.files.now.log_b.items c.deref-2.ensures.value c.is_bad_segment-b.ensures in
     (c.requires, λ bad. not_both c.is_bad_segment-a.result c.if-b.false.0 (a.1 bad), λ bad. not_both c.is_bad_segment-b.result c.if-b.false.1 (b.1 bad))

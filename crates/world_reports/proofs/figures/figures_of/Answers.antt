@@ -2,10 +2,8 @@ use Rattle.std.proofs.Common.{List, ℕ, subst, refl}
 use Rattle.world_reports.specs.FileReports.{IsLogReport}
 use Rattle.world_reports.proofs.figures.figures_of.Goals as goal
 
-pub returns-in-Ok-clause-figures : goal.returns-in-Ok-clause-figures
-returns-in-Ok-clause-figures c = record {
-  found = c.in-Ok.found;
-  stands = c.in-Ok.ensures.recovered;
+pub returns : goal.returns
+returns c = record {
   tick = refl;
   image = refl;
   slot = refl;

@@ -6,21 +6,21 @@ use Rattle.world_reports.proofs.inspecting.report_files.Goals as goal
 
 pub returns-clause-reported : goal.returns-clause-reported
 returns-clause-reported g c = λ honest honest_files.
-    let stands = c.in_ok-found.ensures.found in
-    let words = c.in_ok-found.found.words.items in
-    let reported = g.F.Folder.history c.print_files.new.folder in
+    let words = c.in_ok-found.found.world.words.items in
     record {
       seen = c.in_ok-seen.seen;
       looked = g.F.Folder.history c.look_at_folder.new.folder;
-      reported = reported;
-      bytes = stands.0;
-      found = c.in_ok-found.found;
+      reported = g.F.Folder.history c.print_files.new.folder;
+      bytes = c.in_ok-found.field-0-0;
+      found = c.in_ok-found.found.world;
+      finding = c.in_ok-found.found.finding;
       is_seen = c.in_ok-seen.ensures.seen honest honest_files;
       files = c.in_ok-print_files.ensures.printed honest;
-      are_read = stands.1;
-      stands = stands.2;
+      are_read = c.in_ok-found.ensures.read;
+      stands = c.in_ok-found.ensures.found;
+      judged = c.in_ok-found.ensures.judged;
       printed = c.in_ok-print_words.ensures.printed honest
           ∙ ((λ i. words_printed c.args.with_words words (c.in_ok-print.ensures.printed honest i))
           ∙ (λ i. words_printed c.args.with_words words
-          (Printed (recovered_text (c.of.ensures.world i).tick (c.of.ensures.world i).from (c.of.ensures.slot i)) ∷ reported)));
+          (Printed (recovered_text (c.of.ensures.world i).tick (c.of.ensures.world i).from (c.of.ensures.slot i)) ∷ c.in_ok-warn_of.ensures honest i)));
     }

@@ -6,7 +6,7 @@ returns-in-Ok-start_world-clause-stands g c = λ honest.
     let D = g.D.Disk in
     let begun = c.in-Ok.found.begun in
     let opened = c.in-Ok-start_world.opened in
-    stands_opened _ D.content D.may_leave c.args.files c.recover_whole.new.files begun.engine begun.from opened.front.live opened.images opened.log opened.ended
+    stands_opened _ D.content D.may_leave c.args.files c.recover_checked.new.files begun.engine begun.from opened.front.live opened.images opened.log opened.ended
     (c.in-Ok.ensures.read honest) (c.in-Ok-start_world.ensures.stands honest) c.in-Ok-start_world.ensures.ended
 
 pub returns-in-Ok-start_world-clause-keeps : goal.returns-in-Ok-start_world-clause-keeps
@@ -14,11 +14,11 @@ returns-in-Ok-start_world-clause-keeps g c = λ honest.
     let D = g.D.Disk in
     let begun = c.in-Ok.found.begun in
     let read = c.in-Ok.ensures.read honest in
-    keeps_world _ D.content D.may_leave c.args.files c.recover_whole.new.files begun.engine begun.from _ read (c.in-Ok-start_world.ensures.sound honest read.newest)
+    keeps_world _ D.content D.may_leave c.args.files c.recover_checked.new.files begun.engine begun.from _ read (c.in-Ok-start_world.ensures.sound honest read.newest)
 
 pub returns-in-Err-start_world-clause-left : goal.returns-in-Err-start_world-clause-left
 returns-in-Err-start_world-clause-left g c = λ honest.
     let D = g.D.Disk in
     let begun = c.in-Ok.found.begun in
     let read = c.in-Ok.ensures.read honest in
-    keeps_world _ D.content D.may_leave c.args.files c.recover_whole.new.files begun.engine begun.from c.in-Err-start_world.files read (c.in-Err-start_world.ensures.sound honest read.newest)
+    keeps_world _ D.content D.may_leave c.args.files c.recover_checked.new.files begun.engine begun.from c.in-Err-start_world.files read (c.in-Err-start_world.ensures.sound honest read.newest)

@@ -12,10 +12,10 @@ no_creation : (found : Found) → first_value found (codes "words") ≡ None →
 no_creation found no_words no_cells Steps asks = let first : 99 ≡ 115 = ap (λ name. slice_index name 0) asks in absurd (omega (arith, first))
 no_creation found no_words no_cells (Create folder cells) asks = no_cells cells asks.3
 no_creation found no_words no_cells (CreateOfWords folder words) asks = absurd cc
-no_creation found no_words no_cells (Recover folder) asks = let first : 99 ≡ 114 = ap (λ name. slice_index name 0) asks.0 in absurd (omega (arith, first))
-no_creation found no_words no_cells (Inspect folder words) asks = let first : 99 ≡ 105 = ap (λ name. slice_index name 0) asks.0 in absurd (omega (arith, first))
-no_creation found no_words no_cells (Status folder) asks = let first : 99 ≡ 115 = ap (λ name. slice_index name 0) asks.0 in absurd (omega (arith, first))
-no_creation found no_words no_cells (BackUp folder to) asks = let first : 99 ≡ 98 = ap (λ name. slice_index name 0) asks.0 in absurd (omega (arith, first))
+no_creation found no_words no_cells (Recover folder on_loss) asks = let first : 99 ≡ 114 = ap (λ name. slice_index name 0) asks.0 in absurd (omega (arith, first))
+no_creation found no_words no_cells (Inspect folder words on_loss) asks = let first : 99 ≡ 105 = ap (λ name. slice_index name 0) asks.0 in absurd (omega (arith, first))
+no_creation found no_words no_cells (Status folder on_loss) asks = let first : 99 ≡ 115 = ap (λ name. slice_index name 0) asks.0 in absurd (omega (arith, first))
+no_creation found no_words no_cells (BackUp folder to on_loss) asks = let first : 99 ≡ 98 = ap (λ name. slice_index name 0) asks.0 in absurd (omega (arith, first))
 no_creation found no_words no_cells (Salvage folder to) asks = let first : 99 ≡ 115 = ap (λ name. slice_index name 0) asks.0 in absurd (omega (arith, first))
 
 pub returns-in_err-cells_of-in-None-clause-none : goal.returns-in_err-cells_of-in-None-clause-none

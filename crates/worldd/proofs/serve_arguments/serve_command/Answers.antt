@@ -2,7 +2,7 @@ use Rattle.std.proofs.Common.{[], ◌∷◌, codes}
 use Rattle.std.proofs.lemmas.Result.{IfOk-weaker}
 use Rattle.clap.specs.Words.{AddsGroup}
 use Rattle.clap.specs.declared.builder.command.Command.{Command}
-use Rattle.worldd.specs.Grammar.{IsServe, flag_rule, method_rule, mode_rule, needed_number_rule, number_rule, serve_rules, value_rule}
+use Rattle.worldd.specs.Grammar.{IsServe, flag_rule, losses_rule, method_rule, mode_rule, needed_number_rule, number_rule, serve_rules, value_rule}
 use Rattle.worldd.proofs.GrammarLemmas.{argument_added, group_added}
 use Rattle.worldd.proofs.serve_arguments.serve_command.Goals as goal
 
@@ -30,7 +30,9 @@ returns c =
     report c.exit_argument.ensures c.in_ok-arg-9.ensures in
     let closed = argument_added (codes "serve") _ [] (number_rule (codes "exit-when-closed") 0 86_400 []) c.in_ok-arg-9.field-0 c.in_ok-arg-10.field-0 c.closed_argument.result
     exit c.closed_argument.ensures c.in_ok-arg-10.ensures in
-    let all : (command : Command) → AddsGroup c.in_ok-arg-10.field-0 c.in_ok-address_group.field-0 command → IsServe command =
+    let losses = argument_added (codes "serve") _ [] losses_rule c.in_ok-arg-10.field-0 c.in_ok-arg-11.field-0 c.losses_argument.result
+    closed c.losses_argument.ensures c.in_ok-arg-11.ensures in
+    let all : (command : Command) → AddsGroup c.in_ok-arg-11.field-0 c.in_ok-address_group.field-0 command → IsServe command =
     λ command adds. (
       methods,
       modes,
@@ -39,7 +41,7 @@ returns c =
       (
         c.in_ok-address_group.field-0,
         c.in_ok-address_group.ensures,
-        group_added (codes "serve") (serve_rules methods modes) c.in_ok-arg-10.field-0 command c.in_ok-address_group.field-0 closed adds,
+        group_added (codes "serve") (serve_rules methods modes) c.in_ok-arg-11.field-0 command c.in_ok-address_group.field-0 losses adds,
       ),
     ) in
     IfOk-weaker _ _ _ all c.group.ensures

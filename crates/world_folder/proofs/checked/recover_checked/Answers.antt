@@ -1,8 +1,8 @@
 use Rattle.world_start.proofs.Recovered.{read_on}
-use Rattle.world_folder.proofs.whole.recover_whole.Goals as goal
+use Rattle.world_folder.proofs.checked.recover_checked.Goals as goal
 
-pub returns-in-Ok-recover_world-clause-read : goal.returns-in-Ok-recover_world-clause-read
-returns-in-Ok-recover_world-clause-read g c = λ honest.
+pub returns-in-Ok-judge-clause-read : goal.returns-in-Ok-judge-clause-read
+returns-in-Ok-judge-clause-read g c = λ honest.
     let begun = c.in-Ok-recover_world.begun in
     read_on g.C.Capture.content g.D.Disk.content g.D.Disk.may_leave c.args.files.now c.read_heads.new.files (c.read_heads.ensures.kept honest)
     begun.engine begun.from c.recover_world.new.files (c.in-Ok-recover_world.ensures.read honest)

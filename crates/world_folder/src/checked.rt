@@ -1,0 +1,65 @@
+//! Recovery of a world, whose files are checked for a loss.
+ghost use Rattle.std.specs.Prelude.{◌≡◌, None, take, IsTrue, IfOk, IfErr};
+ghost use Rattle.disk_model.specs.FourFiles.{EachFile, KeepsFile};
+ghost use Rattle.world_start.specs.Opening.{IsRead};
+ghost use Rattle.world_start.specs.Steps.{IsAhead};
+ghost use Rattle.world_folder.specs.Lost.{JudgedIn, lost_in};
+ghost use Rattle.world_folder.specs.Unrecovered.{IsUnrecovered};
+
+use crate::lost::{Finding, Lost, OnLoss, judge, read_heads};
+use capture_core::Capture;
+use disk_model::{Disk, FourFiles};
+use std::alloc::Global;
+use world_actions::Refusal;
+use world_start::{Start, recover_world};
+
+/// Why no world is served.
+#[derive(Clone, Copy, Debug, PartialEq, Eq)]
+pub enum NotRecovered {
+    /// Recovery refuses the files, or there was no memory, or a device failed.
+    Refused(Refusal),
+    /// A world is recovered, ticks after it were answered, and losses are to be refused.
+    Lost(Lost),
+}
+
+/// A world that was recovered.
+#[derive(Drop)]
+pub struct Checked<C: Capture> {
+    pub begun: Start<C>,
+    /// The finding to be named.
+    pub finding: Option<Finding>,
+}
+
+/// Recovers the world in the files, as `recover_world` does, and judges by their heads if ticks
+/// that were answered are in none of them. The files are only read.
+pub fn recover_checked<C: Capture + Drop, D: Disk>(
+    alloc: Global,
+    files: &mut FourFiles<D>,
+    on_loss: OnLoss,
+) -> Result<Checked<C>, NotRecovered>
+    ensures kept { IsTrue D.honest
+        → EachFile files.old files.new (KeepsFile D.content D.may_leave) }
+    ensures ahead { IfOk result (λ found.
+        IsAhead C.content D.content D.honest found.begun files.new) }
+    ensures read { IsTrue D.honest → IfOk result (λ found.
+        IsRead C.content D.content D.may_leave files.old found.begun.engine
+        found.begun.from files.new) }
+    ensures judged { IsTrue D.honest → IfOk result (λ found.
+        JudgedIn D.content on_loss found.begun.engine.ended found.begun.from
+        files.old found.finding) }
+    ensures whole { IsTrue D.honest → on_loss ≡ OnLoss.Refuse → IfOk result (λ found.
+        lost_in D.content found.begun.engine.ended found.begun.from files.old ≡ None) }
+    ensures refused { IfErr result (IsUnrecovered D.content D.honest on_loss files.old) }
+{
+    let heads = match read_heads(alloc, files) {
+        Ok(heads) => heads,
+        Err(refusal) => return Err(NotRecovered::Refused(refusal)),
+    };
+    match recover_world(alloc, files) {
+        Ok(begun) => match judge(on_loss, begun.engine.ended, begun.from, &heads) {
+            Ok(finding) => Ok(Checked { begun, finding }),
+            Err(lost) => Err(NotRecovered::Lost(lost)),
+        },
+        Err(refusal) => Err(NotRecovered::Refused(refusal)),
+    }
+}
