@@ -1,5 +1,5 @@
-//! The public surface: each name that a program may build on is used here by its path and its
-//! signature, so that a change of either doesn't pass unseen.
+//! The public surface. Each name that a program may build on is used here by its path and its
+//! signature. A change of either fails to build here.
 #![tactic(auto)]
 
 #[cfg(test)]

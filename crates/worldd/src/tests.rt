@@ -146,7 +146,7 @@ fn what_is_down_is_reported_by_the_status(rt: HostRuntime) {
     }
 }
 
-// What a command line asks for: about a loss, if a command of one reads it, and the exit statuses.
+// The command line's choice about a loss, if its command reads one, and its exit statuses.
 fn on_loss_and_statuses(alloc: Global, line: &[&str]) -> Result<(Option<OnLoss>, Statuses), Fail> {
     let words = words(alloc, line)?;
     let matches = matches_of(alloc, &words)?;

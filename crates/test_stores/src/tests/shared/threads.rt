@@ -1,6 +1,6 @@
-// One thread writes and marks a thousand rounds while another takes them. Once both are joined and
-// their seats have met, the rounds are known to agree, and the words of the takes are compared with
-// those that a list had at each mark.
+// One thread writes and marks a thousand rounds while another takes them. The rounds are known to
+// agree once both are joined and their seats have met. Each take's words are then compared with
+// those that a list had at its mark.
 ghost use Rattle.std.specs.Prelude.{◌≡◌, ◌+◌, ◌<◌, [], true, length, All};
 ghost use Rattle.shared_capture.specs.declared.view.Round.{Round};
 ghost use Rattle.shared_capture.specs.Rounds.{Agree};
