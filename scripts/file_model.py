@@ -151,13 +151,14 @@ def recovery_of(files: Files) -> Found | Refused:
     return Found(taken.tick + len(tail), taken.tick, images.index(taken), words, parts)
 
 
-def losses(files: Files, found: Found) -> list[Refused]:
-    """The files of a world that look lost, in order, and how each is refused: no crash of a served world leaves them so."""
+def losses(files: Files, found: Found, refuses: bool) -> list[Refused]:
+    """The files of a world that look lost, in order, and how each is refused: no crash of a served world leaves them so. An empty
+    log counts beside an image of a tick above 0 or, if losses are refused, once a tick is recovered."""
     lost = list[Refused]()
     for name, data in zip(NAMES, files):
         is_image = name.startswith("image")
         code, why, what = (14, "lost_image", "an image") if is_image else (15, "lost_log", "a log")
-        if not data and found.source > 0:
+        if not data and (found.source if is_image or not refuses else found.tick) > 0:
             lost.append(Refused(code, why, f"{what} file is damaged: {name} is empty, so it was lost"))
         elif not is_image and (log := segment_of(data)) and log.base > found.tick:
             lost.append(Refused(code, "gap", f"{what} file is damaged: {name} begins after ticks that were lost"))

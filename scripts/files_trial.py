@@ -47,13 +47,13 @@ SUMMARY = (
 
 def check_errors(what: str, errors: str, files: Files, found: Found | Refused, refuses: bool) -> None:
     """A refusal has its code and a reason, which may be known. Else the first file that looks lost is named, and nothing more. If
-    losses are refused, a log that is empty beside an image of tick 0 is named."""
+    losses are refused, a log that is empty before any tick is named."""
     said = [line for line in errors.splitlines() if not re.search(" image of tick | the (port|socket) is closed", line)]
     if isinstance(found, Refused):
         wanted = [f"fault {found.code}", f"worldd: {found.reason}" if found.reason else "".join(said[1:])]
     else:
-        named = [loss.reason.partition(": ")[2] for loss in losses(files, found)]
-        if refuses and found.source == 0:
+        named = [loss.reason.partition(": ")[2] for loss in losses(files, found, refuses)]
+        if refuses and found.tick == 0:
             empty = [name for name, data in zip(NAMES[2:], files[2:]) if not data]
             named = [f"{name} is empty: if this world was played, its ticks are lost" for name in empty]
         wanted = [f"worldd: {name}" for name in named[:1]]
@@ -320,7 +320,7 @@ class Trial:
         """Tries four files. It gives what was met, and what was wrong if anything was; the folder stays then."""
         name, files, looks, is_served = tried
         found, chance, met = recovery_of(files), random.Random(f"{self.seed} {name}"), collections.Counter[str]()
-        lost = [] if isinstance(found, Refused) else losses(files, found)
+        lost = [] if isinstance(found, Refused) else losses(files, found, refuses=True)
         met.update({loss.why for loss in lost})
         if isinstance(found, Refused):
             met[found.why] += 1

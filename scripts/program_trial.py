@@ -503,6 +503,11 @@ LOST = (
     ((b"\0", IMAGE_OF_2, NEW_LOG_OF_3, b"\0"), 15, "log.a begins after ticks that were lost", "2 from 2"),
     ((NEW_IMAGE, b"", NEW_LOG, NEW_LOG_OF_3), 15, "log.b begins after ticks that were lost", "0 from 0"),
 )
+# Refused with 15 by the flag, and not noted without it: an empty log beside an image of tick 0, of which ticks were recovered.
+LOST_EARLY = (
+    ((NEW_IMAGE, b"", LOG_OF_GROUPS, b""), "log.b is empty, so it was lost", "3 from 0"),
+    ((NEW_IMAGE, b"", b"", LOG_OF_GROUPS), "log.a is empty, so it was lost", "3 from 0"),
+)
 DAMAGED = {14: "an image file is damaged", 15: "a log file is damaged"}
 REFUSE = "--refuse-losses"
 
@@ -520,26 +525,32 @@ def serve_once(trial: Trial, folder: pathlib.Path, *more: str) -> tuple[str, str
 
 def try_lost(trial: Trial) -> None:
     """Files of which one was lost: each command answers as recovery does and names it, or refuses it if that is asked for."""
-    serve = "--method", "zigzag", "--port", "0", "--clients", "1"
     for files, code, why, answer in LOST:
-        fault, note = f"fault {code}\nworldd: {DAMAGED[code]}: {why}\n", f"worldd: {why}\n"
-        with new_folder(*files) as folder, new_folder() as to:
-            for line in (("recover",), ("status",), ("serve", *serve), ("backup", "--to", str(to))):
-                printed = NO_SERVER if line == ("status",) else ""
-                trial.ends(f"{line[0]} refused: {why}", trial.run(*line, REFUSE, "--dir", str(folder)), printed, fault, 1)
-            got = trial.run("inspect", REFUSE, "--dir", str(folder))
-            trial.check(f"inspect refused: {why}", (got.output.count("\n"), got.errors, got.status), (4, fault, 1))
-            trial.check(why, (files_of(folder), list(to.iterdir())), (files, []))
-            trial.ends(f"recover: {why}", trial.run("recover", "--dir", str(folder)), f"recovered {answer}\n", note, 0)
-            copy = trial.run("backup", "--to", str(to), "--dir", str(folder))
-            trial.ends(f"backup: {why}", copy, f"backed up {answer}\n", note, 0)
-            for command, place in (("status", 0), ("inspect", 4)):
-                got = trial.run(command, "--dir", str(folder))
-                line = got.output.splitlines()[place].partition(" in ")[0]
-                trial.check(f"{command}: {why}", (line, got.errors, got.status), (f"recovered {answer}", note, 0))
-            trial.check(why, files_of(folder), files)
-            trial.check(f"serve: {why}", serve_once(trial, folder), (f"recovered {answer}\n", note))
-            trial.seen["served beside a lost file"] += 1
+        try_loss(trial, files, code, why, answer, f"worldd: {why}\n")
+    for files, why, answer in LOST_EARLY:
+        try_loss(trial, files, 15, why, answer, "")
+
+
+def try_loss(trial: Trial, files: tuple[bytes, ...], code: int, why: str, answer: str, note: str) -> None:
+    """Files that are refused by the flag, and what is noted of them without it."""
+    fault, serve = f"fault {code}\nworldd: {DAMAGED[code]}: {why}\n", ("--method", "zigzag", "--port", "0", "--clients", "1")
+    with new_folder(*files) as folder, new_folder() as to:
+        for line in (("recover",), ("status",), ("serve", *serve), ("backup", "--to", str(to))):
+            printed = NO_SERVER if line == ("status",) else ""
+            trial.ends(f"{line[0]} refused: {why}", trial.run(*line, REFUSE, "--dir", str(folder)), printed, fault, 1)
+        got = trial.run("inspect", REFUSE, "--dir", str(folder))
+        trial.check(f"inspect refused: {why}", (got.output.count("\n"), got.errors, got.status), (4, fault, 1))
+        trial.check(why, (files_of(folder), list(to.iterdir())), (files, []))
+        trial.ends(f"recover: {why}", trial.run("recover", "--dir", str(folder)), f"recovered {answer}\n", note, 0)
+        copy = trial.run("backup", "--to", str(to), "--dir", str(folder))
+        trial.ends(f"backup: {why}", copy, f"backed up {answer}\n", note, 0)
+        for command, place in (("status", 0), ("inspect", 4)):
+            got = trial.run(command, "--dir", str(folder))
+            line = got.output.splitlines()[place].partition(" in ")[0]
+            trial.check(f"{command}: {why}", (line, got.errors, got.status), (f"recovered {answer}", note, 0))
+        trial.check(why, files_of(folder), files)
+        trial.check(f"serve: {why}", serve_once(trial, folder), (f"recovered {answer}\n", note))
+        trial.seen["served beside a lost file"] += 1
 
 
 def doubtful(name: str) -> str:
@@ -548,20 +559,18 @@ def doubtful(name: str) -> str:
 
 
 def try_doubtful(trial: Trial) -> None:
-    """Worlds with an image of tick 0 of which a log may have been lost: they are read and served, and the log is named if losses
-    are refused."""
-    for logs, tick, note in (
-        ((b"", b""), 0, doubtful("log.a")),
-        ((b"", b"\0"), 0, doubtful("log.a")),
-        ((NEW_LOG, b""), 0, doubtful("log.b")),
-        ((LOG_OF_GROUPS, b""), 3, doubtful("log.b")),
-        ((b"", LOG_OF_GROUPS), 3, doubtful("log.a")),
-        ((NEW_LOG, b"\0"), 0, ""),
-        ((b"\0", b"\0"), 0, ""),
+    """Worlds at tick 0 of which a log may have been lost: they are read and served, and the log is named if losses are
+    refused."""
+    for logs, note in (
+        ((b"", b""), doubtful("log.a")),
+        ((b"", b"\0"), doubtful("log.a")),
+        ((NEW_LOG, b""), doubtful("log.b")),
+        ((NEW_LOG, b"\0"), ""),
+        ((b"\0", b"\0"), ""),
     ):
         for more, named in (((), ""), ((REFUSE,), note)):
             with new_folder(NEW_IMAGE, b"", *logs) as folder:
-                recovered = f"recovered {tick} from 0\n"
+                recovered = "recovered 0 from 0\n"
                 trial.ends(f"recover beside {logs}", trial.run("recover", *more, "--dir", str(folder)), recovered, named, 0)
                 trial.check(f"serve beside {logs}", serve_once(trial, folder, *more), (recovered, named))
                 trial.seen["served beside an empty log" if named else "served"] += 1

@@ -77,5 +77,5 @@ Explains on_loss files Replay =
     × ¬ IsSegment files.log_b.items MalformedSegment
 Explains on_loss files (Lost lost) =
     (on_loss ≡ Refuse) × (found : Recovered) × Stands files found
-    × (lost_of found.tick found.from files.image_a.items files.image_b.items files.log_a.items
-    files.log_b.items ≡ Some lost)
+    × (lost_of on_loss found.tick found.from files.image_a.items files.image_b.items
+    files.log_a.items files.log_b.items ≡ Some lost)

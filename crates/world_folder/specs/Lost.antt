@@ -32,10 +32,16 @@ begins_after tick log =
     nat_le SEGMENT_HEAD (length log) && (get_or log 0 0 == OPEN_GATE)
     && is_above tick (marked_in log)
 
--- a log that is empty beside an image of a tick above 0, or that begins after the recovered tick
-abbrev pub lost_log : Slot → (tick from : ℕ) → List ℕ → Option Lost
-lost_log slot tick from [] = if nat_lt 0 from then Some (Log slot) else None
-lost_log slot tick from (gate ∷ rest) =
+-- The tick above 0 by which an empty log is lost. No crash leaves one once a tick is recovered.
+-- Without the flag it is named beside an image of a tick above 0 alone.
+abbrev pub reached : OnLoss → (tick from : ℕ) → ℕ
+reached Warn tick from = from
+reached Refuse tick from = tick
+
+-- a log that is empty although a tick was reached, or that begins after the recovered tick
+abbrev pub lost_log : Slot → (tick reached : ℕ) → List ℕ → Option Lost
+lost_log slot tick reached [] = if nat_lt 0 reached then Some (Log slot) else None
+lost_log slot tick reached (gate ∷ rest) =
     if begins_after tick (gate ∷ rest) then Some (Gap slot) else None
 
 -- the first of two findings
@@ -44,10 +50,12 @@ or_else (Some lost) other = Some lost
 or_else None other = other
 
 -- what was lost of four files, of which this tick is recovered from an image of the tick `from`
-abbrev pub lost_of : (tick from : ℕ) → (image_a image_b log_a log_b : List ℕ) → Option Lost
-lost_of tick from image_a image_b log_a log_b =
+abbrev pub lost_of : OnLoss → (tick from : ℕ) → (image_a image_b log_a log_b : List ℕ)
+    → Option Lost
+lost_of on_loss tick from image_a image_b log_a log_b =
     or_else (empty_image A from image_a) (or_else (empty_image B from image_b)
-    (or_else (lost_log A tick from log_a) (lost_log B tick from log_b)))
+    (or_else (lost_log A tick (reached on_loss tick from) log_a)
+    (lost_log B tick (reached on_loss tick from) log_b)))
 
 -- ---- files that a crash may leave, and a loss too
 
@@ -57,10 +65,10 @@ first_empty [] log_b = Some A
 first_empty (gate ∷ rest) [] = Some B
 first_empty (gate ∷ rest) (other ∷ more) = None
 
--- An empty log beside an image of tick 0. A `create` that was cut off leaves it. So does the loss
--- of a log that had the world's first ticks.
-abbrev pub doubtful_log : (from : ℕ) → (log_a log_b : List ℕ) → Option Slot
-doubtful_log from log_a log_b = if nat_lt 0 from then None else first_empty log_a log_b
+-- An empty log, if tick 0 is recovered. A `create` that was cut off leaves it. So does the loss of
+-- a log that had the world's first ticks.
+abbrev pub doubtful_log : (tick : ℕ) → (log_a log_b : List ℕ) → Option Slot
+doubtful_log tick log_a log_b = if nat_lt 0 tick then None else first_empty log_a log_b
 
 -- ---- what is done about it
 
@@ -75,15 +83,16 @@ judged Refuse (Some lost) doubtful = Err lost
 abbrev pub judgement : OnLoss → (tick from : ℕ) → (image_a image_b log_a log_b : List ℕ)
     → Result (Option Finding) Lost
 judgement on_loss tick from image_a image_b log_a log_b =
-    judged on_loss (lost_of tick from image_a image_b log_a log_b) (doubtful_log from log_a log_b)
+    judged on_loss (lost_of on_loss tick from image_a image_b log_a log_b)
+    (doubtful_log tick log_a log_b)
 
 -- ---- by the heads of four files
 
 module _ {D : Type 0} (file : D → List ℕ) where
   -- this was lost
-  abbrev pub lost_in : (tick from : ℕ) → FourFiles D → Option Lost
-  lost_in tick from files =
-      lost_of tick from (take SEGMENT_HEAD (file files.image_a))
+  abbrev pub lost_in : OnLoss → (tick from : ℕ) → FourFiles D → Option Lost
+  lost_in on_loss tick from files =
+      lost_of on_loss tick from (take SEGMENT_HEAD (file files.image_a))
       (take SEGMENT_HEAD (file files.image_b))
       (take SEGMENT_HEAD (file files.log_a)) (take SEGMENT_HEAD (file files.log_b))
 

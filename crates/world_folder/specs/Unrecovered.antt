@@ -16,7 +16,7 @@ module _ {D : Type 0} (file : D → List ℕ) where
     pub asked : on_loss ≡ Refuse
     pub recovery : Recovery
     pub recovers : RecoversFiles file files recovery
-    pub found : lost_in file recovery.tick recovery.from files ≡ Some lost
+    pub found : lost_in file on_loss recovery.tick recovery.from files ≡ Some lost
 
   -- recovery refuses the files, memory ran out, or a device failed; or a world is recovered, a
   -- file of it was lost, and that is to be refused

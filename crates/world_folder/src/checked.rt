@@ -48,7 +48,7 @@ pub fn recover_checked<C: Capture + Drop, D: Disk>(
         JudgedIn D.content on_loss found.begun.engine.ended found.begun.from
         files.old found.finding) }
     ensures whole { IsTrue D.honest → on_loss ≡ OnLoss.Refuse → IfOk result (λ found.
-        lost_in D.content found.begun.engine.ended found.begun.from files.old ≡ None) }
+        lost_in D.content on_loss found.begun.engine.ended found.begun.from files.old ≡ None) }
     ensures refused { IfErr result (IsUnrecovered D.content D.honest on_loss files.old) }
 {
     let heads = match read_heads(alloc, files) {

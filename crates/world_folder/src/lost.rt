@@ -2,7 +2,7 @@
 ghost use Rattle.std.specs.Prelude.{◌≡◌, ◌⊎◌, take, IsTrue, IfOk, IfErr, Some, None};
 ghost use Rattle.disk_model.specs.FourFiles.{EachFile, KeepsFile};
 ghost use Rattle.world_folder.specs.Lost.{begins_after, doubtful_log, empty_image, first_empty};
-ghost use Rattle.world_folder.specs.Lost.{judgement, lost_log, lost_of};
+ghost use Rattle.world_folder.specs.Lost.{judgement, lost_log, lost_of, reached};
 ghost use Rattle.world_folder.specs.Texts.{finding_text, lost_text};
 
 use crate::look::{SEGMENT_HEAD, read_head};
@@ -28,7 +28,7 @@ pub enum Lost {
     /// This image is empty, beside one of a tick above 0. By then both were written once.
     Image(Slot),
     /// This log is empty, beside an image of a tick above 0. The first start writes both logs,
-    /// before a tick ends.
+    /// before a tick ends. If losses are refused, it counts as soon as a tick is recovered.
     Log(Slot),
     /// This log begins after the tick that is recovered. The ticks up to its
     /// beginning were answered.
@@ -54,7 +54,7 @@ impl fmt::Display for Lost {
 #[derive(Clone, Copy, Debug, PartialEq, Eq)]
 pub enum Finding {
     Lost(Lost),
-    /// This log is empty, beside an image of tick 0. Either its world never had a start, or the log
+    /// This log is empty, and tick 0 is recovered. Either the world never had a start, or the log
     /// was lost with ticks that were answered. The files don't say which.
     Doubtful(Slot),
 }
@@ -86,23 +86,23 @@ pub fn judge(
     ensures judged { result ≡ judgement on_loss tick from files.now.image_a.items
         files.now.image_b.items files.now.log_a.items files.now.log_b.items }
     ensures whole { on_loss ≡ OnLoss.Refuse → IfOk result (λ _.
-        lost_of tick from files.now.image_a.items files.now.image_b.items
+        lost_of on_loss tick from files.now.image_a.items files.now.image_b.items
         files.now.log_a.items files.now.log_b.items ≡ None) }
     ensures refused { IfErr result (λ lost. (on_loss ≡ OnLoss.Refuse)
-        × (lost_of tick from files.now.image_a.items files.now.image_b.items
+        × (lost_of on_loss tick from files.now.image_a.items files.now.image_b.items
         files.now.log_a.items files.now.log_b.items ≡ Some lost)) }
 {
-    match (on_loss, lost_of(tick, from, files)) {
+    match (on_loss, lost_of(on_loss, tick, from, files)) {
         (OnLoss::Warn, None) => Ok(None),
         (OnLoss::Warn, Some(lost)) => Ok(Some(Finding::Lost(lost))),
-        (OnLoss::Refuse, None) => Ok(doubtful_log(from, files).map(Finding::Doubtful)),
+        (OnLoss::Refuse, None) => Ok(doubtful_log(tick, files).map(Finding::Doubtful)),
         (OnLoss::Refuse, Some(lost)) => Err(lost),
     }
 }
 
 // What was lost of four files with these bytes.
-fn lost_of(tick: u64, from: u64, files: &FourFiles<Vec<u8>>) -> Option<Lost>
-    ensures { result ≡ lost_of tick from files.now.image_a.items files.now.image_b.items
+fn lost_of(on_loss: OnLoss, tick: u64, from: u64, files: &FourFiles<Vec<u8>>) -> Option<Lost>
+    ensures { result ≡ lost_of on_loss tick from files.now.image_a.items files.now.image_b.items
         files.now.log_a.items files.now.log_b.items }
 {
     if let Some(lost) = empty_image(Slot::A, from, &files.image_a) {
@@ -111,9 +111,20 @@ fn lost_of(tick: u64, from: u64, files: &FourFiles<Vec<u8>>) -> Option<Lost>
     if let Some(lost) = empty_image(Slot::B, from, &files.image_b) {
         return Some(lost);
     }
-    match lost_log(Slot::A, tick, from, &files.log_a) {
+    let reached = reached(on_loss, tick, from);
+    match lost_log(Slot::A, tick, reached, &files.log_a) {
         Some(lost) => Some(lost),
-        None => lost_log(Slot::B, tick, from, &files.log_b),
+        None => lost_log(Slot::B, tick, reached, &files.log_b),
+    }
+}
+
+// The tick above 0 by which an empty log is lost.
+fn reached(on_loss: OnLoss, tick: u64, from: u64) -> u64
+    ensures { result ≡ reached on_loss tick from }
+{
+    match on_loss {
+        OnLoss::Warn => from,
+        OnLoss::Refuse => tick,
     }
 }
 
@@ -127,11 +138,11 @@ fn empty_image(slot: Slot, from: u64, image: &[u8]) -> Option<Lost>
     }
 }
 
-fn lost_log(slot: Slot, tick: u64, from: u64, log: &[u8]) -> Option<Lost>
-    ensures { result ≡ lost_log slot tick from log.now }
+fn lost_log(slot: Slot, tick: u64, reached: u64, log: &[u8]) -> Option<Lost>
+    ensures { result ≡ lost_log slot tick reached log.now }
 {
     if log.is_empty() {
-        return if from > 0 {
+        return if reached > 0 {
             Some(Lost::Log(slot))
         } else {
             None
@@ -157,11 +168,11 @@ fn begins_after(tick: u64, log: &[u8]) -> bool
     }
 }
 
-// The empty log beside an image of tick 0, of files with these bytes.
-fn doubtful_log(from: u64, files: &FourFiles<Vec<u8>>) -> Option<Slot>
-    ensures { result ≡ doubtful_log from files.now.log_a.items files.now.log_b.items }
+// The empty log of files with these bytes, if tick 0 is recovered.
+fn doubtful_log(tick: u64, files: &FourFiles<Vec<u8>>) -> Option<Slot>
+    ensures { result ≡ doubtful_log tick files.now.log_a.items files.now.log_b.items }
 {
-    if from > 0 {
+    if tick > 0 {
         return None;
     }
     first_empty(&files.log_a, &files.log_b)

@@ -78,7 +78,7 @@ pub fn serve_world<
     ensures recovered { IsTrue D.honest → IfOk result (λ served.
         RecoversTo D.content files served.stopped.workers.mutator.opening served.recovered) }
     ensures whole { IsTrue D.honest → on_loss ≡ OnLoss.Refuse → IfOk result (λ served.
-        lost_in D.content served.recovered.tick served.recovered.from files ≡ None) }
+        lost_in D.content on_loss served.recovered.tick served.recovered.from files ≡ None) }
     ensures sound { IsTrue D.honest → IfOk result (λ served.
         GoesOnSound D.content D.may_leave files served.recovered.tick served.stopped.workers.mutator
         served.stopped.workers.checkpointer served.stopped.workers.log_writer) }
@@ -118,7 +118,7 @@ fn open_files<M: Seats, D: Disk + Drop, W, F: Front<M, D, W>>(
     ensures recovered { IsTrue D.honest
         → IfOk result (λ made. RecoversTo D.content files made.1.front.live made.0) }
     ensures whole { IsTrue D.honest → on_loss ≡ OnLoss.Refuse
-        → IfOk result (λ made. lost_in D.content made.0.tick made.0.from files ≡ None) }
+        → IfOk result (λ made. lost_in D.content on_loss made.0.tick made.0.from files ≡ None) }
     ensures stands { IsTrue D.honest
         → IfOk result (λ made. StandsOpened D.content D.may_leave files made.0.tick
         made.1.front.live made.1.images made.1.log) }

@@ -53,8 +53,8 @@ pub const RECOVER_HELP: &str = "\
 It reads image.a, image.b, log.a and log.b, writes nothing and locks nothing, and prints
 `recovered N from T`: they hold the world after tick N, built from the image of tick T.
 A file that is empty beside an image of a later tick than 0, or a log that begins after
-tick N, was lost. It is named on standard error, or refused with --refuse-losses. With
-that flag a log that is empty beside an image of tick 0 is named.
+tick N, was lost. It is named on standard error, or refused with --refuse-losses. That
+flag also refuses an empty log beside an image of tick 0, or names it if N is 0.
 If they hold no world the status is 1, and the first line on standard error is
 `fault CODE`:
   13 no image is open, 14 an image is damaged or lost, 15 the log is damaged or lost,
