@@ -13,14 +13,15 @@ _worldd() {
         *' --statuses') words='plain detailed' ;;
         *' --cells' | *' --every' | *' --port' | *' --clients' | *' --idle' | *' --report' | *' --exit-when-closed') words= ;;
         'help '*) words='steps create recover inspect status backup salvage serve' ;;
-        'create '*) words='--dir --cells --words --statuses --help' ;;
+        'create '*) words='--dir --cells --words --guard --statuses --help' ;;
         'inspect '*) words='--dir --words --refuse-losses --statuses --help' ;;
         'recover '* | 'status '*) words='--dir --refuse-losses --statuses --help' ;;
         'backup '*) words='--dir --to --refuse-losses --statuses --help' ;;
         'salvage '*) words='--dir --to --statuses --help' ;;
         'serve '*)
-            words='--dir --method --every --port --socket --socket-mode --clients --idle --report --exit-when-log-down
-                --exit-when-closed --refuse-losses --statuses --help'
+            words='--dir --method --every --port --socket --socket-mode --clients --unlimited-clients --idle --report
+                --exit-when-log-down --exit-when-closed --exit-when-images-down --exit-when-replaced --guard --accept-loss
+                --refuse-losses --statuses --help'
             ;;
         'steps '*) words='--statuses --help' ;;
         *) words=--help ;;

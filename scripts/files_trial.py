@@ -252,6 +252,14 @@ def random_batch(chance: random.Random, cells: int) -> Batch:
 # The trial.
 
 
+def status_of_look(files: Files, found: Found | Refused, refuses: bool) -> int:
+    """The exit status of a command that reads. If losses are refused, the world may be older beside a log that is empty before
+    any tick."""
+    if isinstance(found, Refused):
+        return 1
+    return 14 if refuses and found.tick == 0 and not all(files[2:]) else 0
+
+
 class Set(NamedTuple):
     """Four files, the name of their folder, how many commands look at them, and whether they are served."""
 
@@ -281,7 +289,7 @@ class Trial:
         command, *flags = words
         copy = self.folder(f"{folder.name}, copy") if command == "backup" else None
         ended = ran(self.worldd, command, folder, *flags, *(["--to", str(copy)] if copy else []))
-        wanted = int(isinstance(found, Refused)), printed(command, files, found)
+        wanted = status_of_look(files, found, REFUSE in flags), printed(command, files, found)
         compare(" ".join(words), (ended.returncode, ended.stdout), wanted)
         check_errors(" ".join(words), ended.stderr, files, found, REFUSE in flags)
         if copy:

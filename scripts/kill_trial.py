@@ -33,6 +33,8 @@ BAD_CELL, BAD_VALUE, OUT_OF_RANGE, SAME_CELL, TICK_FULL, BAD_LINE = 1, 2, 3, 4, 
 
 CLIENTS = 4
 EVERY = 8
+# The ends of a server that is well never come.
+EXITS = ("--exit-when-log-down", "--exit-when-images-down", "0", "--exit-when-replaced")
 # An image of them is written in two chunks.
 CELLS = 70
 # Cells for marks and for a count; the clients' own are 1 to CLIENTS, and those between are played with.
@@ -377,7 +379,7 @@ class Trial:
         """Starts a server, by either method and over either transport in turn."""
         method, transport = METHODS[run % 2], TRANSPORTS[run // 2 % 2]
         self.tally["replaced"] += transport == SOCKET and self.socket.exists()
-        flags = ["--method", method, "--every", str(EVERY), "--clients", str(CLIENTS), *flags_of(transport, self.socket)]
+        flags = ["--method", method, "--every", str(EVERY), "--clients", str(CLIENTS), *flags_of(transport, self.socket), *EXITS]
         return Server([self.worldd, "serve", "--dir", str(self.room / "world"), *flags], self.room / "complaints")
 
     def play(self, server: Server, run: int, most: int | None) -> list[Client]:

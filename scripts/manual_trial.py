@@ -49,7 +49,7 @@ class Help:
 
 def flag_of(line: str) -> Flag:
     """The flag of a line of the help."""
-    found = re.fullmatch(r" +(?:(-\w), )?(--[\w-]+)(?: <(\w+)>)? +(.*)", line)
+    found = re.fullmatch(r" +(?:(-\w), )?(--[\w-]+)(?: (\[?<\w+>\]?))? +(.*)", line)
     assert found is not None, f"a flag of the help has the line `{line}`"
     short, long, value, text = found.groups()
     listed = re.search(r" \[possible values: (.*?)\]", text)
@@ -58,7 +58,7 @@ def flag_of(line: str) -> Flag:
     text += "" if text.endswith("]") else "."
     if values:
         text += f" It is {', '.join(values[:-1])} or {values[-1]}."
-    return Flag(f"{short}, {long}" if short else long, value or "", text, values)
+    return Flag(f"{short}, {long}" if short else long, re.sub("[<>]", "", value or ""), text, values)
 
 
 def help_of(program: str, name: str, *command: str) -> Help:
@@ -69,7 +69,7 @@ def help_of(program: str, name: str, *command: str) -> Help:
     usage = " ".join([name, *parts["Usage"].split()[1:]])
     flags = tuple(map(flag_of, parts["Options"].strip("\n").splitlines()))
     # The codes of faults follow the sentence with the statuses.
-    stated = re.search(r"Its status is(.*?)(?:After 1 and 13|\Z)", run.stdout, re.DOTALL)
+    stated = re.search(r"Its status is(.*?)(?:After 1 and 13|After a fault|\Z)", run.stdout, re.DOTALL)
     statuses = frozenset(re.findall(r"\b\d+\b", stated[1])) if stated else frozenset()
     return Help(run.stdout.partition("\n")[0], usage, flags, commands, statuses)
 
@@ -85,7 +85,7 @@ def helps_of(program: str, name: str) -> dict[str, Help]:
 
 def entries(text: str) -> list[tuple[str, str, str]]:
     """The tagged paragraphs of a part of a page: each name, value and text."""
-    found = re.findall(r'^\.TP\n\.BI? (?:"(.+?) ?"|(\S+))(?: (\w+))?\n((?:(?!\.).*\n)*)', text, re.MULTILINE)
+    found = re.findall(r'^\.TP\n\.BI? (?:"(.+?) ?"|(\S+))(?: ([\w[\]]+))?\n((?:(?!\.).*\n)*)', text, re.MULTILINE)
     return [(quoted or plain, value, " ".join(lines.split())) for quoted, plain, value, lines in found]
 
 

@@ -14,7 +14,9 @@ import functools
 import itertools
 import os
 import pathlib
+import re
 import resource
+import socket
 import struct
 import subprocess
 import sys
@@ -60,7 +62,7 @@ NOT_A_FILE = "not a regular file"
 HELD = "another program writes this world"
 NO_SERVER = "server: none\n"
 HOLDS_A_WORLD = "a file already holds a world: choose an empty folder"
-FULL = "fault 18\nworldd: standard output: No space left on device (os error 28)\n"
+FULL = "fault 18\nworldd: standard output: the disk is full\n"
 MORE = "For more information, try '--help'.\n"
 
 Outcome = collections.namedtuple("Outcome", "output errors status")
@@ -69,9 +71,13 @@ Outcome = collections.namedtuple("Outcome", "output errors status")
 class Trial(Runs):
     """Runs on command lines, scripts and folders, and what was seen of them."""
 
-    def run(self, *words: str | bytes, full: bool = False, script: bytes = b"", memory: int = 0) -> Outcome:
-        """Runs the program with these words, with so many bytes of memory if a number is given. A full output takes no byte."""
-        limit = (lambda: resource.setrlimit(resource.RLIMIT_AS, (memory, memory))) if memory else None
+    def run(
+        self, *words: str | bytes, full: bool = False, script: bytes = b"", memory: int = 0, longest: int = 0
+    ) -> Outcome:
+        """Runs the program with these words, with so many bytes of memory, or in a file, if a number is given. A full output
+        takes no byte."""
+        kind, most = (resource.RLIMIT_AS, memory) if memory else (resource.RLIMIT_FSIZE, longest)
+        limit = (lambda: resource.setrlimit(kind, (most, most))) if most else None
         with open("/dev/full", "wb") as device:
             output: BinaryIO | int = device if full else subprocess.PIPE
             command = [self.program, *words]
@@ -115,10 +121,11 @@ def fault_of(folder: pathlib.Path, code: int, name: str, why: str) -> str:
 
 def try_command_lines(trial: Trial) -> None:
     """Wrong command lines, help, the version, and words that aren't text."""
-    serve = "Usage: worldd serve --dir <FOLDER> --method <METHOD> --clients <K> <--port <P>|--socket <PATH>>"
+    serve = "Usage: worldd serve --dir <FOLDER> --method <METHOD> <--port <P>|--socket <PATH>> <--clients <K>|--unlimited-clients>"
     make = "Usage: worldd create --dir <FOLDER> <--cells <N>|--words <FILE>>"
     lacking = "the following required arguments were not provided:\n  "
     whole = "serve --dir world --method zigzag --clients 1"
+    needed = "--method <METHOD>\n  <--port <P>|--socket <PATH>>\n  <--clients <K>|--unlimited-clients>"
     for words, text in (
         (
             "",
@@ -129,7 +136,6 @@ def try_command_lines(trial: Trial) -> None:
         ("steps extra", "unexpected argument 'extra' found\n\nUsage: worldd steps [OPTIONS]"),
         ("create --cells 1", f"{lacking}--dir <FOLDER>\n\n{make}"),
         ("create --dir world", f"{lacking}<--cells <N>|--words <FILE>>\n\n{make}"),
-        ("create --dir world --cells 2 --words w", f"the argument '--cells <N>' cannot be used with '--words <FILE>'\n\n{make}"),
         ("create --dir world --cells 0", "invalid value '0' for '--cells <N>': 0 is not in 1..=1048576"),
         ("create --dir world --cells 1048577", "invalid value '1048577' for '--cells <N>': 1048577 is not in 1..=1048576"),
         ("create --dir world --cells two", "invalid value 'two' for '--cells <N>': invalid digit found in string"),
@@ -138,9 +144,13 @@ def try_command_lines(trial: Trial) -> None:
         ("backup --dir world", f"{lacking}--to <FOLDER>\n\nUsage: worldd backup --dir <FOLDER> --to <FOLDER>"),
         ("salvage --dir world", f"{lacking}--to <FOLDER>\n\nUsage: worldd salvage --dir <FOLDER> --to <FOLDER>"),
         ("inspect --words", f"{lacking}--dir <FOLDER>\n\nUsage: worldd inspect --dir <FOLDER> --words"),
-        ("serve --dir world", f"{lacking}--method <METHOD>\n  --clients <K>\n  <--port <P>|--socket <PATH>>\n\n{serve}"),
+        ("serve --dir world", f"{lacking}{needed}\n\n{serve}"),
         (f"{whole}", f"{lacking}<--port <P>|--socket <PATH>>\n\n{serve}"),
         (f"{whole} --port 0 --socket s", f"the argument '--port <P>' cannot be used with '--socket <PATH>'\n\n{serve}"),
+        (
+            f"{whole} --port 0 --unlimited-clients",
+            f"the argument '--clients <K>' cannot be used with '--unlimited-clients'\n\n{serve}",
+        ),
         (
             f"{whole} --port 0 --socket-mode 0660",
             f"the argument '--port <P>' cannot be used with '--socket-mode <MODE>'\n\n{serve}",
@@ -195,12 +205,13 @@ def try_command_lines(trial: Trial) -> None:
         (
             "backup",
             "Copies the world in a folder, also while it is served\n\nUsage: worldd backup [OPTIONS] --dir <FOLDER> --to <FOLDER>\n",
-            "\n  began a new image under each of 1000 tries, 22 the folder of the copy isn't empty\n",
+            "\n  began a new image under each of 1000 tries, 22 the folder of the copy isn't empty, or\n"
+            "  lies in that of the world\n",
         ),
         (
             "salvage",
             "Makes a world of what can be read of damaged or lost files\n\nUsage: worldd salvage [OPTIONS] --dir <FOLDER> --to <FOLDER>\n",
-            "\n  22 the folder of the new files isn't empty\n",
+            "\n  22 the folder of the new files isn't empty, or lies in that of the world\n",
         ),
         (
             "serve",
@@ -317,12 +328,17 @@ def try_not_creating(trial: Trial) -> None:
 def try_words(trial: Trial) -> None:
     """Worlds that are made of the words in a file, and files that list none: the line is named, and nothing is made."""
     most = 999_999_999_999_999_999
-    for text, words in (("5\n7\n", (5, 7)), ("5 7", (5, 7)), (f"0\n{most}\n", (0, most)), ("1 2\n3\n4 5\n6", (1, 2, 3, 4, 5, 6))):
+    for text, words in (("5\n7\n", (5, 7)), ("5 7\n", (5, 7)), (f"0\n{most}\n", (0, most)), ("1 2\n3\n4 5\n6\n", (1, 2, 3, 4, 5, 6))):
         with new_folder() as folder:
             listed = folder / "words"
             listed.write_text(text)
-            made = trial.run("create", "--dir", str(folder), "--words", str(listed))
-            trial.ends(f"the words {text!r}", made, f"created {len(words)}\n", "", 0)
+            line = "create", "--dir", str(folder), "--words", str(listed)
+            other = f"fault 16\nworldd: {listed}: --cells isn't the number of its words, {len(words)}\n"
+            for asked in (len(words) - 1, len(words) + 1):
+                trial.ends(f"{asked} of the words {text!r}", trial.run(*line, "--cells", str(asked)), "", other, 1)
+            trial.check(f"another number of the words {text!r}", list(folder.iterdir()), [listed])
+            asked = ("--cells", str(len(words))) if len(words) > 2 else ()
+            trial.ends(f"the words {text!r}", trial.run(*line, *asked), f"created {len(words)}\n", "", 0)
             image = b"\1" + struct.pack(f"<QQ{len(words)}Q", len(words) + (0x20 << 56), 0, *words)
             trial.check(f"the words {text!r}", files_of(folder), (image, b"", b"", b""))
             found = trial.run("inspect", "--words", "--dir", str(folder)).output.splitlines()
@@ -339,6 +355,9 @@ def try_words(trial: Trial) -> None:
         ("1\r\n", f"line 1 {bad}"),
         (f"{most + 1}\n", f"line 1 {bad}"),
         (f"1\n2\n{1 << 64}", f"line 3 {bad}"),
+        ("1\n2\n1000", "its last line has no newline, so it may be cut off"),
+        ("1\n2 ", "its last line has no newline, so it may be cut off"),
+        ("7", "its last line has no newline, so it may be cut off"),
         ("0\n" * 1_048_577, "it has more than 1048576 words"),
     ):
         with new_folder() as folder:
@@ -360,7 +379,7 @@ def try_larger(trial: Trial) -> None:
     with new_folder(IMAGE_OF_3, IMAGE_OF_2, LOG_OF_3, LOG_OF_4) as folder, new_folder() as larger:
         printed = trial.run("inspect", "--words", "--dir", str(folder)).output.splitlines()[-1]
         (larger / "words").write_text(f"{printed}\n0\n11\n")
-        made = trial.run("create", "--dir", str(larger), "--words", str(larger / "words"))
+        made = trial.run("create", "--dir", str(larger), "--words", str(larger / "words"), "--cells", "4")
         trial.ends("a larger world", made, "created 4\n", "", 0)
         found = trial.run("inspect", "--words", "--dir", str(larger)).output.splitlines()
         trial.check("a larger world", found[-2:], ["recovered 0 from 0 in image.a", "3 9 0 11"])
@@ -439,7 +458,89 @@ def try_copies(trial: Trial) -> None:
         fcntl.flock(held, fcntl.LOCK_EX | fcntl.LOCK_NB)
         got = trial.run("backup", "--dir", str(folder), "--to", str(to), full=True)
         trial.ends("a copy of a held world, and a full output", got, "", FULL, 1)
-        trial.check("a copy of a held world", files_of(to), (NEW_IMAGE, b"", NEW_LOG, b"\0"))
+        trial.check("a copy that wasn't reported", list(to.iterdir()), [])
+    try_copies_inside(trial)
+    try_failed_copies(trial)
+
+
+def try_copies_inside(trial: Trial) -> None:
+    """Copies into a folder that lies in the world's own, by whatever path: nothing is made there."""
+    for command, last in ("backup", "backed up 4 from 3\n"), ("salvage", "dropped: nothing\n"):
+        with new_folder(IMAGE_OF_2, IMAGE_OF_3, LOG_OF_3, LOG_OF_4) as folder, new_folder() as other:
+            inside = folder / "copies" / "of today"
+            inside.mkdir(parents=True)
+            (other / "link").symlink_to(inside)
+            (other / "world").symlink_to(folder)
+            for world, to in (
+                (folder, inside), (folder, folder / "copies"), (folder, other / "link"), (other / "world", inside),
+                (folder, f"{folder}/../{folder.name}/copies/"),
+            ):
+                got = trial.run(command, "--dir", str(world), "--to", str(to))
+                why = f"fault 22\nworldd: {to}: it lies in the world's folder: choose one outside\n"
+                trial.ends(f"{command} into its world", got, "", why, 1)
+            trial.check(f"{command} into its world", (list(inside.iterdir()), files_of(folder)[0]), ([], IMAGE_OF_2))
+            beside = other / "beside" / folder.name
+            beside.mkdir(parents=True)
+            got = trial.run(command, "--dir", str(folder), "--to", str(beside))
+            trial.check(f"{command} beside its world", (got.output.endswith(last), got.errors, got.status), (True, "", 0))
+
+
+def try_failed_copies(trial: Trial) -> None:
+    """Copies whose files fail take them away again, so that the same command can be run again."""
+    limit, why = 30, "the disk is full, or the file has reached a limit on its size"
+    for command, failing in ("backup", "log.b"), ("salvage", "image.a"):
+        with new_folder(IMAGE_OF_2, IMAGE_OF_3, LOG_OF_3, LOG_OF_4) as folder, new_folder() as to:
+            line = command, "--dir", str(folder), "--to", str(to)
+            got = trial.run(*line, longest=limit)
+            trial.check(f"a failed {command}", (got.errors, got.status), (f"fault 18\nworldd: {to}/{failing}: {why}\n", 1))
+            trial.check(f"a failed {command}", list(to.iterdir()), [])
+            trial.check(f"{command} again", trial.run(*line).status, 0)
+            trial.check(f"{command} over its copy", (trial.run(*line).status, len(list(to.iterdir()))), (1, 4))
+
+
+# Damaged files, what `salvage` prints of each, the tick of the world it makes, and of which files something was dropped.
+SALVAGED = (
+    (
+        (IMAGE_OF_2, IMAGE_OF_3, LOG_OF_3, LOG_OF_4),
+        ("whole, tick 2", "whole, tick 3", "whole, 1 tick after tick 2", "whole, 1 tick after tick 3"), "4", "nothing",
+    ),
+    ((NEW_IMAGE, b"", b"\0", b"\0"), ("whole, tick 0", *("closed",) * 3), "0", "nothing"),
+    ((NEW_IMAGE, b"", b"", b""), ("whole, tick 0", *("closed",) * 3), "0", "log.a, log.b"),
+    ((NEW_IMAGE, b"", LOG_OF_GROUPS, b""), ("whole, tick 0", "closed", "whole, 3 ticks after tick 0", "closed"), "3", "log.b"),
+    ((b"", IMAGE_OF_3, b"\0", LOG_OF_4), ("closed", "whole, tick 3", "closed", "whole, 1 tick after tick 3"), "4", "image.a"),
+    (
+        (IMAGE_OF_2, GARBAGE, b"\0", LOG_OF_4),
+        (
+            "whole, tick 2", "damaged, nothing is taken", "closed",
+            "whole, 1 tick after tick 3, which is lost: nothing is taken",
+        ), "2", "image.b, log.b",
+    ),
+    (
+        (IMAGE_OF_2, b"\0", LOG_OF_3[:-1] + b"\1", BAD_LOG),
+        ("whole, tick 2", "closed", "damaged from byte 27 on, 1 tick after tick 2", "damaged, nothing is taken"),
+        "3", "log.a, log.b",
+    ),
+    ((GARBAGE, IMAGE_OF_3, b"", GARBAGE), ("damaged, nothing is taken", "whole, tick 3", "closed", "damaged, nothing is taken"),
+     "3", "image.a, log.a, log.b"),
+)
+
+
+def try_salvaged(trial: Trial) -> None:
+    """Worlds of damaged files: the last line names what was dropped, and the status says if anything was."""
+    for files, parts, tick, dropped in SALVAGED:
+        with new_folder(*files) as folder, new_folder() as to:
+            lines = "".join(f"{name}: {part}\n" for name, part in zip(NAMES, parts))
+            printed = f"{lines}salvaged {tick} from {tick}\ndropped: {dropped}\n"
+            line, status = ("salvage", "--dir", str(folder), "--to", str(to)), 0 if dropped == "nothing" else 14
+            trial.ends(f"salvage: {dropped}", trial.run(*line), printed, "", status)
+            trial.check(f"salvage: {dropped}", files_of(folder), files)
+            trial.ends("a salvaged world", trial.run("recover", "--dir", str(to)), f"recovered {tick} from {tick}\n", "", 0)
+    with new_folder(IMAGE_OF_2, IMAGE_OF_3, LOG_OF_3, LOG_OF_4) as folder, new_folder() as to:
+        (folder / "image.a").unlink()
+        got = trial.run("salvage", "--dir", str(folder), "--to", str(to), "--statuses", "detailed")
+        lost, last = f"image.a: lost: {NO_FILE}", "dropped: image.a"
+        lines = got.output.splitlines()
+        trial.check("salvage of a lost file", (lines[0], lines[-1], got.errors, got.status), (lost, last, "", 14))
 
 
 def both(trial: Trial, folder: pathlib.Path, full: bool = False) -> tuple[Outcome, Outcome]:
@@ -559,8 +660,8 @@ def doubtful(name: str) -> str:
 
 
 def try_doubtful(trial: Trial) -> None:
-    """Worlds at tick 0 of which a log may have been lost: they are read and served, and the log is named if losses are
-    refused."""
+    """Worlds at tick 0 of which a log may have been lost: they are read and served. If losses are refused, the log is named,
+    and the status of a command says so."""
     for logs, note in (
         ((b"", b""), doubtful("log.a")),
         ((b"", b"\0"), doubtful("log.a")),
@@ -569,9 +670,14 @@ def try_doubtful(trial: Trial) -> None:
         ((b"\0", b"\0"), ""),
     ):
         for more, named in (((), ""), ((REFUSE,), note)):
-            with new_folder(NEW_IMAGE, b"", *logs) as folder:
-                recovered = "recovered 0 from 0\n"
-                trial.ends(f"recover beside {logs}", trial.run("recover", *more, "--dir", str(folder)), recovered, named, 0)
+            with new_folder(NEW_IMAGE, b"", *logs) as folder, new_folder() as to:
+                recovered, status = "recovered 0 from 0\n", 14 if named else 0
+                on = *more, "--dir", str(folder)
+                trial.ends(f"recover beside {logs}", trial.run("recover", *on), recovered, named, status)
+                trial.ends(f"backup beside {logs}", trial.run("backup", *on, "--to", str(to)), "backed up 0 from 0\n", named, status)
+                for command in "inspect", "status":
+                    got = trial.run(command, *on, "--statuses", "detailed")
+                    trial.check(f"{command} beside {logs}", (got.errors, got.status), (named, status))
                 trial.check(f"serve beside {logs}", serve_once(trial, folder, *more), (recovered, named))
                 trial.seen["served beside an empty log" if named else "served"] += 1
 
@@ -769,6 +875,19 @@ def last_report(errors: pathlib.Path, want: str) -> str:
         time.sleep(0.1)
 
 
+def try_lasting(trial: Trial, client: socket.socket, errors: pathlib.Path) -> None:
+    """Plays until figures say for how many seconds the room lasts: at as many ticks as have ended since the figures before."""
+    figure = re.compile(r"worldd: tick (\d+) .* room (\d+)(?: lasts (\d+))?\n")
+    until = time.monotonic() + PATIENCE_SECONDS
+    with client.makefile() as reader:
+        while " lasts " not in errors.read_text() and time.monotonic() < until:
+            client.sendall(b"end\n")
+            reader.readline()
+    before, last = figure.findall(errors.read_text())[-2:]
+    ticks = int(last[0]) - int(before[0])
+    trial.check("how long the room lasts", last[2], str(int(last[1]) // ticks) if ticks else "")
+
+
 def try_reporting(trial: Trial) -> None:
     """Figures that a server prints: the last answered tick, its newest image, its clients and what waits."""
     with reporting(trial, "--clients", "2", "--every", "3") as (address, errors):
@@ -776,8 +895,9 @@ def try_reporting(trial: Trial) -> None:
         with connect(address) as client, client.makefile() as reader:
             client.sendall(b"end\n")
             trial.check("a second client", reader.readline(), "tick 4:\n")
-            want = "worldd: tick 4 acked 4 image 3 sessions 1 batches/s 0 waiting 0"
+            want = "worldd: tick 4 acked 4 image 3 sessions 1 batches/s 0 waiting 0 room 65535"
             trial.check("reports", last_report(errors, want), want)
+            try_lasting(trial, client, errors)
     trial.seen["served"] += 1
 
 
@@ -791,7 +911,7 @@ def try_reporting_down(trial: Trial) -> None:
                 client.sendall(b"add 0 1\nend\n")
                 answers.append(reader.readline())
             ended = len(answers)
-            want = f"worldd: tick {ended} acked {ended - 1} image 0 sessions 1 batches/s 0 waiting 0"
+            want = f"worldd: tick {ended} acked {ended - 1} image 0 sessions 1 batches/s 0 waiting 0 room {65_536 - ended}"
             trial.check("reports", last_report(errors, want), want)
     trial.check("the log's end", answers[-1], "fault 12\n")
     trial.seen["reported with its log down"] += 1
@@ -799,14 +919,14 @@ def try_reporting_down(trial: Trial) -> None:
 
 PARTS = (
     try_command_lines, try_scripts, try_creating, try_completing, try_not_creating, try_words, try_larger, try_found,
-    try_figures, try_copies, try_lost, try_doubtful, try_long, try_missing, try_damaged, try_not_serving, try_serving,
+    try_figures, try_copies, try_salvaged, try_lost, try_doubtful, try_long, try_missing, try_damaged, try_not_serving, try_serving,
     try_largest, try_reporting, try_reporting_down,
 )
 
 
 # What has to be seen.
 SEEN = (
-    "status 0", "status 2", *(f"status 1, fault {code}" for code in (13, 14, 15, 16, 18, 22)),
+    "status 0", "status 2", "status 14", *(f"status 1, fault {code}" for code in (13, 14, 15, 16, 18, 22)),
     "served", "served beside an empty log", "served beside a lost file", "reported with its log down",
 )
 

@@ -5,8 +5,9 @@
     scripts/salvage_trial.py WORLDD --worlds 200 --seed 7
 
 Worlds of a plain model are written as a server leaves them, with images of two ticks and up to two segments of the log. Each is
-damaged in each way. `salvage` has to end by itself, and to leave the damaged files as they are. What it saved has to be
-recovered. It has to be the world after some of its first ticks, except if a number in a file was changed: no file has a checksum.
+damaged in each way. `salvage` has to end by itself, and to leave the damaged files as they are. Its last line has to name each
+file of which it dropped something, and its status has to say if it did. What it saved has to be recovered. It has to be the world
+after some of its first ticks, except if a number in a file was changed: no file has a checksum.
 """
 import collections
 import pathlib
@@ -21,6 +22,8 @@ from trial import NAMES, Wrong, parser_of, ran, status_in_folder, want
 
 SECTOR, MARK = 512, 0x20 << 56
 KINDS = {"set": (1, "IQ"), "add": (2, "Iq"), "move": (3, "IIQ"), "swap": (4, "II"), "cap": (5, "IQ")}
+# The exit status if something was dropped, and what the line on a file says then.
+MAY_BE_OLDER, DROPPED = 14, ("lost: ", "damaged", "nothing is taken")
 # What may come of it: all of the world, a part, another world since a number was changed, or nothing.
 WHOLE, PART, CHANGED, NONE = "whole", "in part", "changed", "nothing saved"
 
@@ -128,6 +131,11 @@ WAYS = {
 }
 
 
+def has_any(line: str, parts: tuple[str, ...]) -> bool:
+    """Whether a line has one of these parts."""
+    return any(part in line for part in parts)
+
+
 class Trial:
     """Damaged worlds in a folder, and the counts so far."""
 
@@ -136,9 +144,10 @@ class Trial:
         self.tally: collections.Counter[tuple[str, str]] = collections.Counter()
 
     def ask(self, command: str, folder: pathlib.Path, *flags: str) -> subprocess.CompletedProcess[str]:
-        """Runs a command, which has to end by itself with status 0 or a fault."""
+        """Runs a command, which has to end by itself: with status 0, with a fault, or with what it dropped."""
         ended = ran(self.worldd, command, folder, *flags)
-        is_so = ended.returncode in (0, 1) and (ended.returncode == 1) == ended.stderr.startswith("fault ")
+        done = (0, MAY_BE_OLDER) if command == "salvage" else (0,)
+        is_so = ended.returncode in (*done, 1) and (ended.returncode == 1) == ended.stderr.startswith("fault ")
         want(is_so, f"{command} ended with status {ended.returncode}: {' '.join(ended.stderr.split())}")
         return ended
 
@@ -156,7 +165,24 @@ class Trial:
         ended = self.ask("salvage", damaged, "--to", str(saved))
         if {path.name: path.read_bytes() for path in damaged.iterdir()} != files:
             raise Wrong(f"salvage changed the damaged files: {way}")
-        self.tally[way, self.saved(world, files, saved) if ended.returncode == 0 else NONE] += 1
+        if ended.returncode == 1:
+            self.tally[way, NONE] += 1
+            return
+        self.check_dropped(files, ended)
+        self.tally[way, self.saved(world, files, saved)] += 1
+
+    def check_dropped(self, files: Files, ended: subprocess.CompletedProcess[str]) -> None:
+        """The last line names each file of which something was dropped, as the lines on files say, or which is empty."""
+        *lines, _, last = ended.stdout.splitlines()
+        newest = max(int(line.split()[-1]) for line in lines if ": whole, tick " in line)
+        dropped = {name for name in NAMES if any(line.startswith(name) and has_any(line, DROPPED) for line in lines)}
+        for name in NAMES:
+            if files.get(name) == b"" and (name.startswith("log") or newest > 0):
+                dropped.add(name)
+        wanted = ", ".join(name for name in NAMES if name in dropped) or "nothing"
+        want(last == f"dropped: {wanted}", f"salvage ended by {last}, and not with {wanted}: {lines}")
+        want(ended.returncode == (MAY_BE_OLDER if dropped else 0), f"status {ended.returncode} after {last}")
+        self.tally["dropped", "something" if dropped else "nothing"] += 1
 
     def saved(self, world: World, files: Files, saved: pathlib.Path) -> str:
         """How much was saved, which recovers."""
@@ -180,8 +206,9 @@ class Trial:
                 self.try_one(world, way, 2 if number % 4 == 3 else 1)
         counts = [f"{way}: " + ", ".join(f"{how} {self.tally[way, how]}" for how in (WHOLE, PART, CHANGED, NONE)) for way in WAYS]
         met = {how for _, how in self.tally}
-        if len(met) < 4:
+        if len(met) < 6:
             raise Wrong(f"only {', '.join(sorted(met))} came of it")
+        counts.append(", ".join(f"{how} dropped {self.tally['dropped', how]}" for how in ("nothing", "something")))
         return f"salvage trial: {'; '.join(counts)}"
 
 

@@ -11,6 +11,7 @@ tried only by root.
 import collections
 import contextlib
 import ctypes
+import errno
 import fcntl
 import functools
 import itertools
@@ -48,6 +49,10 @@ CROWD = 20
 # How many clients come and go while stacks are counted, and what the stack of a session's thread takes. So many sessions may
 # overlap on a loaded machine. The C library keeps a stack and its guard of each for those that follow.
 ENDED_SESSIONS, STACK_BYTES, OVERLAP = 500, 256 << 10, 10
+# How many clients leave at once, and how many of their threads may end without the next connection.
+LEAVING, ENDS = 1_100, 1_024
+# How many bytes more one server may take than another one.
+MORE_BYTES = 64 << 20
 # Room for what a batch takes, and not for the stack of a thread.
 LESS_THAN_A_STACK = 200 << 10
 SMALL_PIPE = 4096
@@ -58,25 +63,55 @@ LONG_BATCHES, SENT_AFTER = 45, 100_000
 FILE_LIMIT = 20_011
 # One that the image of a start passes.
 START_LIMIT = 4_011
-SHORT = "the disk is full, or the file has reached a limit on its size"
+# One that an image of a larger world passes, and a full log doesn't.
+LARGE_WORLD, LARGE_LIMIT = 400_000, 2_000_011
+# How many ticks may end without an image, the room by which a server ends, and how many clients use it up.
+ROOM, LAST_ROOM, PLAYERS = 65_536, 8_192, 64
+# The lines on the room for ticks.
+ROOM_LEFT = "worldd: images down: %d more ticks can end, then each batch is refused with 6\n"
+ROOM_USED_UP = "worldd: each batch is refused with 6: no image has opened for 65536 ticks\n"
+IMAGES_DOWN = 11
+# How long after a file was removed or replaced a server may still answer.
+NOTICED_SECONDS = 1.5
+NO_ROOM, LIMITED = "the disk is full", "the file has reached a limit on its size"
+SHORT = f"{NO_ROOM}, or {LIMITED}"
 # The last line of `status`.
 UP, NO_LOG = (f"server: running, log {log}, images up" for log in ("up", "down"))
 NO_IMAGES, NEITHER = (f"server: running, log {log}, images down" for log in ("up", "down"))
 NO_SERVER, UNKNOWN, UNKNOWN_PARTS = "server: none", "server: unknown", "server: running, log unknown, images unknown"
-SERVER_LINES = UP, NO_LOG, NO_IMAGES, NEITHER, NO_SERVER, UNKNOWN, UNKNOWN_PARTS
+REPLACED = "server: running, on files that were removed or replaced"
+SERVER_LINES = UP, NO_LOG, NO_IMAGES, NEITHER, NO_SERVER, UNKNOWN, UNKNOWN_PARTS, REPLACED
 HELD, KEPT = "another program writes this world", "a program that looks at this world keeps its lock"
+# The calls of a start that a shortage may refuse, and its errors. The world's folder has the name ".".
+SHORTAGES = (
+    *itertools.product(("open",), (*NAMES, "."), (errno.ENFILE, errno.EMFILE)),
+    *itertools.product(("socket",), ("socket",), (errno.ENFILE, errno.EMFILE, errno.ENOBUFS)),
+    ("flock", "image.a", errno.ENOLCK),
+)
+# Of the syncs or the writes of a file the one that fails, and how often a batch is sent after it.
+FAILED_PLACE, SENT_ON = 8, 20
+FAILED = "Input/output error (os error 5)"
+# Calls that fail, and the end of what each command prints whose second try succeeds. `status` and `backup` sync no file first.
+RECOVERED, NOTHING_DROPPED = "recovered 0 from 0\n", "salvaged 0 from 0\ndropped: nothing\n"
+SYNCING = {"recover": RECOVERED, "inspect": "recovered 0 from 0 in image.a\n"}
+READING = SYNCING | {"status": f"{NO_SERVER}\n", "backup": "backed up 0 from 0\n"}
+SALVAGING = {"salvage": NOTHING_DROPPED}
+FAILED_CALLS = {("fsync", "log.a"): SYNCING | SALVAGING, ("pread", "log.a"): READING | SALVAGING, ("pread", "image.a"): READING}
 # How many servers start beside looks, and how many pairs of them at once; how many threads look.
 LOOKED_AT, PAIRS, LOOKERS = 300, 25, 2
 CASES = (
     *(f"{command} with closed streams" for command in ("create", "recover", "inspect", "steps", "serve")),
-    "short connections", "ended sessions", "descriptors exhausted", "descriptors freed", "errors unread", "lines dropped",
+    "short connections", "ended sessions", "clients left at once", "no room for clients to come", "descriptors exhausted",
+    "descriptors freed", "errors unread", "lines dropped",
     "output full", "output broken", "port closed", "socket closed", "silent client ended", "link refused", "mode of a new file",
     "short write named", "ended by its log", "start that fails", "no thread named",
     "socket with its mode", "socket removed", "old socket replaced", "socket in use kept", "socket's place taken",
     "other file kept", "next server's socket kept", "fault 16 not reset",
     "client refused", "listener lost", "left when closed", "left at once when closed", "left with its log down",
-    "lost file named", *SERVER_LINES, "second server refused", "reader waited for", "reader too slow", "start beside looks",
-    "one of two servers",
+    "lost file named", "left for a lost file", "room named", "refused without room", "images down ended it", "little room ended it",
+    "ended by no image that is up", "sync interrupted", "fsync failed", "fdatasync failed", "pwrite failed", "create without room",
+    "made meanwhile", "shortage at a start", "read tried again", "read failed again", "file of a copy left", *SERVER_LINES,
+    "second server refused", "reader waited for", "reader too slow", "start beside looks", "one of two servers",
 )
 CASES_OF_ROOT = ("user let in", "user refused", "socket never open to others", "shortage of room", "no /dev/null")
 # Users and groups, which the system need not know. The server's own are the first ones.
@@ -118,14 +153,15 @@ class Server:
     """A serving worldd on its own world."""
 
     def __init__(
-        self, worldd: str, folder: pathlib.Path, *flags: str, clients: int = 100_000, transport: str = "port",
+        self, worldd: str, folder: pathlib.Path, *flags: str, clients: int | None = None, transport: str = "port",
         path: pathlib.Path | None = None, **process: Any
     ) -> None:
         self.worldd, self.folder, self.path = worldd, folder, path or folder.with_suffix(".socket")
         if not folder.exists():
             create(worldd, folder, CELLS)
         self.address = str(self.path) if transport == SOCKET else str(free_port())
-        fixed = ("--method", "zigzag", f"--{transport}", self.address, "--clients", str(clients))
+        admission = ("--clients", str(clients)) if clients else ("--unlimited-clients",)
+        fixed = ("--method", "zigzag", f"--{transport}", self.address, *admission)
         flags = flags if "--every" in flags else ("--every", "4096", *flags)
         flags = flags if "--statuses" in flags else (*DETAILED, *flags)
         process = {"stdout": subprocess.PIPE, "stderr": subprocess.PIPE, **process}
@@ -236,7 +272,7 @@ class Trial:
 
     def come_and_go(self, count: int, transport: str) -> tuple["Footprint", "Footprint"]:
         """What a server has of the system before so many clients come and go, and after."""
-        server = self.server("--every", "65536", stderr=subprocess.DEVNULL, clients=100_000, transport=transport)
+        server = self.server("--every", "65536", stderr=subprocess.DEVNULL, transport=transport)
         for _ in range(50):
             client = server.client()
             client.play()
@@ -265,6 +301,38 @@ class Trial:
         want(after.threads <= before.threads + 2, "ended sessions keep threads")
         want(after.descriptors <= before.descriptors + 4, "ended sessions keep descriptors")
         want(after.kilobytes <= before.kilobytes + 2_048, "ended sessions keep memory")
+
+    def left_at_once(self) -> None:
+        """More clients leave at once than threads end without the next connection. It is served, and all threads end."""
+        most = resource.getrlimit(resource.RLIMIT_NOFILE)[1]
+        resource.setrlimit(resource.RLIMIT_NOFILE, (most, most))
+        server = self.server("--every", "65536", clients=LEAVING + 1)
+        crowd = [server.client() for _ in range(LEAVING)]
+        want(crowd[-1].play() == b"tick 1: +\n", "no answer in a crowd")
+        for client in crowd:
+            client.leave()
+        end = time.monotonic() + PATIENCE_SECONDS
+        while (threads := footprint(server.process.pid).threads) > LEAVING - ENDS + OVERLAP:
+            want(time.monotonic() < end, f"{threads} threads stay after {LEAVING} clients have left")
+            time.sleep(0.01)
+        if threads >= LEAVING - ENDS:
+            self.met["clients left at once"] += 1
+        last = server.client()
+        want(last.play() == b"tick 2: +\n", "no answer after clients that left at once")
+        last.leave()
+        status, output, _ = server.end()
+        want(status == 0 and "stopped tick 2 " in output, f"the end after clients that left at once: {status} {output}")
+
+    def unlimited_clients(self) -> None:
+        """A server takes no memory for clients that may come."""
+        sizes = []
+        for clients in (1, None):
+            server = self.server(clients=clients)
+            want(server.client().play() == b"tick 1: +\n", "no answer of a first client")
+            sizes.append(footprint(server.process.pid).size)
+            server.kill()
+        want(sizes[1] - sizes[0] < MORE_BYTES, f"clients that may come take memory: {sizes}")
+        self.met["no room for clients to come"] += 1
 
     def descriptors(self) -> None:
         """Clients take all descriptors, and leave."""
@@ -445,14 +513,249 @@ class Trial:
         (server.folder / "other").rename(server.folder / "image.a")
         for tick in range(2, 51):
             want(client.play().startswith(b"tick %d:" % tick), f"tick {tick} without two files")
+        time.sleep(NOTICED_SECONDS)
         client.leave()
         status, _, errors = server.end()
         want(status == 0, f"the end without two files: {status}")
+        again = self.server()
+        self.becomes(again.folder, NO_SERVER, UP)
+        shutil.copyfile(again.folder / "image.a", again.folder / "other")
+        (again.folder / "other").rename(again.folder / "image.a")
+        self.becomes(again.folder, NO_SERVER, REPLACED)
+        again.kill()
+        self.becomes(again.folder, NO_SERVER, NO_SERVER)
         for name in NAMES:
             line = f"worldd: {server.folder}/{name} was removed or replaced: save the files before the server ends\n"
             wanted = 1 if name in ("log.b", "image.a") else 0
             want(errors.count(line) == wanted, f"{name}, {wanted} lines wanted: {errors}")
             self.met["lost file named"] += wanted
+
+    def left_for_lost_files(self) -> None:
+        """With its flag a server ends with 12 once a file was removed or replaced, or its folder renamed: no tick is lost."""
+        def remove(folder: pathlib.Path) -> pathlib.Path:
+            (folder / "image.b").unlink()
+            return folder
+
+        def replace(folder: pathlib.Path) -> pathlib.Path:
+            shutil.copyfile(folder / "log.b", folder / "other")
+            (folder / "other").rename(folder / "log.b")
+            return folder
+
+        def rename(folder: pathlib.Path) -> pathlib.Path:
+            return folder.rename(folder.with_suffix(".moved"))
+
+        for harm, plays in itertools.product((remove, replace, rename), (True, False)):
+            server = self.server("--exit-when-replaced", "--exit-when-log-down")
+            client = server.client()
+            want(client.play() == b"tick 1: +\n", "no answer")
+            moved, begun_at, ticks = harm(server.folder), time.monotonic(), 1
+            while plays and client.play().startswith(b"tick"):
+                ticks += 1
+            status, _, errors = server.end()
+            took = time.monotonic() - begun_at
+            want(status == 12 and took < NOTICED_SECONDS, f"{harm.__name__}: ended with {status} after {took} s: {errors}")
+            want(" was removed or replaced: save" in errors, f"{harm.__name__}: no line: {errors}")
+            if harm is rename:
+                want(errors.count(" was removed or replaced: save") == len(NAMES), f"{harm.__name__}: {errors}")
+                server.folder = moved
+                server.holds(ticks)
+            self.met["left for a lost file"] += 1
+
+    def without_images(self, *flags: str) -> tuple[Server, int, collections.Counter[bytes]]:
+        """A server of a large world whose images fail once it listens: how many ticks its clients were answered, and their faults."""
+        folder = self.folder()
+        create(self.worldd, folder, LARGE_WORLD)
+        server = Server(self.worldd, folder, "--every", "4096", *flags)
+        clients = [server.client() for _ in range(PLAYERS)]
+        resource.prlimit(server.process.pid, resource.RLIMIT_FSIZE, (LARGE_LIMIT, LARGE_LIMIT))
+        given: collections.Counter[bytes] = collections.Counter()
+
+        def play(client: Client) -> None:
+            while answer := client.play():
+                given[answer.partition(b":")[0] if answer.startswith(b"fault") else b"tick"] += 1
+                if answer.startswith(b"fault"):
+                    return
+
+        threads = [threading.Thread(target=play, args=(client,)) for client in clients]
+        for thread in threads:
+            thread.start()
+        for thread in threads:
+            thread.join()
+        return server, given.pop(b"tick"), given
+
+    def images_down(self) -> None:
+        """Images fail for good: lines say how much room is left, and a server ends by its flag, or refuses in the end."""
+        server, ticks, faults = self.without_images()
+        want(ticks > ROOM and {*faults} == {b"fault 6\n"}, f"without images {ticks} ticks were answered, and {faults}")
+        server.process.terminate()
+        errors = server.end()[2]
+        for quarter in range(1, 4):
+            want(errors.count(ROOM_LEFT % (ROOM // 4 * quarter)) == 1, f"quarter {quarter} of the room: {errors}")
+            self.met["room named"] += 1
+        want(errors.count(ROOM_USED_UP) == 1 and "images down: /" in errors, f"no room is left: {errors}")
+        self.met["refused without room"] += 1
+        server.holds(ticks)
+        server, ticks, faults = self.without_images("--exit-when-images-down", "86400")
+        status, _, errors = server.end()
+        want(status == IMAGES_DOWN and not faults, f"it ended with {status} and {faults}: {errors}")
+        want(ROOM - LAST_ROOM <= ticks, f"it ended after {ticks} ticks")
+        self.met["little room ended it"] += 1
+        server.holds(ticks)
+        for seconds in (0, 2):
+            server = self.server("--every", "1", "--exit-when-images-down", str(seconds))
+            client, ticks = server.client(), 0
+            while ticks < 100:
+                ticks += client.play().startswith(b"tick")
+            want(server.process.poll() is None, "it ended although its images are up")
+            self.met["ended by no image that is up"] += 1
+            resource.prlimit(server.process.pid, resource.RLIMIT_FSIZE, (START_LIMIT, START_LIMIT))
+            begun_at = time.monotonic()
+            while client.play().startswith(b"tick"):
+                ticks += 1
+                time.sleep(0.02)
+            status, took = server.end()[0], time.monotonic() - begun_at
+            want(status == IMAGES_DOWN and seconds <= took < seconds + 3, f"it ended with {status} after {took} s and not {seconds}")
+            self.met["images down ended it"] += 1
+            server.holds(ticks)
+
+    @functools.cached_property
+    def failed_call(self) -> pathlib.Path:
+        """The library by which calls of a process fail."""
+        return library_of("failed_call.c", self.scratch)
+
+    def failing(self, call: str, name: str, place: int, number: int, count: int = 1) -> tuple[dict[str, Any], pathlib.Path]:
+        """How a process is run of which so many calls fail by this error, and the file that is there from then on."""
+        failed = self.folder()
+        variables = {"FAILED_CALL": f"{call} {name} {place} {number} {count}", "FAILED_ONCE": str(failed)}
+        return {"env": os.environ | variables | {"LD_PRELOAD": str(self.failed_call)}}, failed
+
+    def syncs(self) -> None:
+        """The first sync of each file as it is opened, and a later one, are interrupted or fail."""
+        for name in NAMES:
+            self.interrupted_sync("fsync", name, 1)
+            self.interrupted_sync("fdatasync", name, FAILED_PLACE)
+            self.failed_start_by_sync(name)
+            self.down_by("fdatasync", name, FAILED_PLACE, errno.EIO, FAILED)
+
+    def interrupted_sync(self, call: str, name: str, place: int) -> None:
+        """A sync that is interrupted is called again, and nobody notices."""
+        process, failed = self.failing(call, name, place, errno.EINTR)
+        server = self.server("--every", "8", clients=1, **process)
+        ticks = self.play_past(server, failed)
+        status, _, errors = server.end()
+        lines = [line for line in errors.splitlines() if not re.search(" image of tick | the port is closed", line)]
+        want(status == 0 and not lines, f"an interrupted {call} of {name} is reported: {status} {errors}")
+        self.met["sync interrupted"] += 1
+        server.holds(ticks)
+
+    def down_by(self, call: str, name: str, place: int, number: int, reason: str) -> None:
+        """The log or the images are down after a call that fails, for this reason."""
+        process, failed = self.failing(call, name, place, number)
+        server = self.server("--every", "8", clients=1, **process)
+        ticks = self.play_past(server, failed)
+        status, _, errors = server.end()
+        down, wanted = (f"log down after tick {ticks}", 12) if name.startswith("log") else ("images down", 11)
+        reported = f"worldd: {down}: {server.folder}/{name}: {reason}\n"
+        want(status == wanted and errors.count(reported) == 1, f"a failed {call} of {name}: {status} {errors}")
+        self.met[f"{call} failed"] += 1
+        server.holds(ticks)
+
+    def failed_start_by_sync(self, name: str) -> None:
+        """A server ends whose start meets a sync that fails."""
+        process, failed = self.failing("fsync", name, 1, errno.EIO)
+        server = self.server(**process)
+        status, output, errors = server.end()
+        reported = f"fault 18\nworldd: {server.folder}/{name}: {FAILED}\n"
+        want((status, output, errors) == (1, "", reported) and failed.exists(), f"a start with a failed sync: {status} {errors}")
+        self.met["fsync failed"] += 1
+        server.holds(0)
+
+    def reasons(self) -> None:
+        """A full disk and a file at its limit have a text each, whatever writes."""
+        for number, reason in ((errno.ENOSPC, NO_ROOM), (errno.EFBIG, LIMITED)):
+            for name in NAMES:
+                self.down_by("pwrite", name, FAILED_PLACE, number, reason)
+            folder = self.folder()
+            folder.mkdir()
+            process, _ = self.failing("pwrite", "image.a", 1, number)
+            run = self.run("create", "--dir", folder, "--cells", 2, capture_output=True, text=True, **process)
+            refused = run.returncode == 1 and run.stderr.startswith(f"fault 18\nworldd: {folder}/image.a: {reason}")
+            want(refused, f"create without room: {run}")
+            self.met["create without room"] += 1
+
+    def passing_shortages(self) -> None:
+        """A start meets a shortage of descriptors, buffers or locks: it has the status of a shortage by the flag alone."""
+        for (call, name, number), statuses in itertools.product(SHORTAGES, (DETAILED, ())):
+            folder = self.world()
+            process, failed = self.failing(call, folder.name if name == "." else name, 1, number)
+            run = self.run("serve", "--dir", folder, *SERVE, *statuses, capture_output=True, text=True, **process)
+            want(failed.exists(), f"a start without a {call} of {name}: {run}")
+            reported = run.stderr.startswith("fault 18\n") and f"(os error {number})" in run.stderr
+            wanted = SHORTAGE if statuses else 1
+            want(run.returncode == wanted and reported, f"a start whose {call} of {name} fails by {number}: {run}")
+            self.met["shortage at a start"] += 1
+
+    def made_meanwhile(self) -> None:
+        """Another program makes a file of a world after `create` has looked for it."""
+        for name in NAMES:
+            folder = self.folder()
+            folder.mkdir()
+            process, failed = self.failing("open", name, 1, errno.EEXIST)
+            run = self.run("create", "--dir", folder, "--cells", 2, capture_output=True, text=True, **process)
+            refused = run.returncode == 1 and run.stderr.startswith(f"fault 18\nworldd: {folder}/{name}: {HELD}")
+            want(refused and failed.exists(), f"create beside a program that makes {name}: {run}")
+            self.met["made meanwhile"] += 1
+
+    def play_past(self, server: Server, failed: pathlib.Path) -> int:
+        """Plays until a call has failed and some batches longer. Returns the last tick that was answered."""
+        client, tick, left = server.client(), 0, SENT_ON
+        end = time.monotonic() + PATIENCE_SECONDS
+        while left:
+            answer = client.play()
+            if answer.startswith(b"tick"):
+                tick += 1
+                want(answer == b"tick %d: +\n" % tick, f"the answer of tick {tick}: {answer!r}")
+            else:
+                want(answer == b"fault 12\n" and failed.exists(), f"the answer after tick {tick}: {answer!r}")
+            left -= failed.exists()
+            want(time.monotonic() < end, "no call fails")
+        client.leave()
+        return tick
+
+    def failed_reads(self) -> None:
+        """A sync or a read of a file fails once, and each command says that it read again; or twice, and the file is lost."""
+        for (call, name), commands in FAILED_CALLS.items():
+            for command, printed in commands.items():
+                for count in 1, 2:
+                    world, copy = self.world(), self.folder()
+                    copy.mkdir()
+                    flags = ("--to", copy) if command in ("backup", "salvage") else ()
+                    process, _ = self.failing(call, name, 1, errno.EIO, count)
+                    run = self.run(command, "--dir", world, *flags, capture_output=True, text=True, **process)
+                    again = f"worldd: {world}/{name}: a read failed, and was tried again: {FAILED}\n"
+                    lost, dropped = f"{name}: lost: {FAILED}\n", f"dropped: {name}\n"
+                    if count == 1:
+                        is_so = (run.returncode, run.stderr) == (0, again) and run.stdout.endswith(printed)
+                    elif command == "salvage":
+                        is_so = (run.returncode, run.stderr) == (14, "") and lost in run.stdout and run.stdout.endswith(dropped)
+                    else:
+                        is_so = (run.returncode, run.stderr) == (1, f"fault 18\nworldd: {world}/{name}: {FAILED}\n")
+                    want(is_so, f"{command} with {count} {call} of {name} failed: {run.returncode} {run.stdout}{run.stderr}")
+                    self.met["read tried again" if count == 1 else "read failed again"] += 1
+
+    def failed_copies(self) -> None:
+        """A copy that fails, and a file of it that can't be removed: that one is named, and the others are gone."""
+        for command, made, failing in ("backup", "log.a", "image.a"), ("salvage", "log.b", "image.a"):
+            world, copy = self.world(), self.folder()
+            copy.mkdir()
+            process, _ = self.failing("unlink", made, 1, errno.EACCES)
+            limit = limiting(resource.RLIMIT_FSIZE, 20)
+            words: Words = [command, "--dir", world, "--to", copy]
+            run = self.run(*words, capture_output=True, text=True, preexec_fn=limit, **process)
+            wanted = f"fault 18\nworldd: {copy}/{failing}: {SHORT}; {made} was made\n"
+            want((run.returncode, run.stderr) == (1, wanted), f"a failed {command}: {run.returncode} {run.stderr}")
+            want([path.name for path in copy.iterdir()] == [made], f"a failed {command} leaves {list(copy.iterdir())}")
+            self.met["file of a copy left"] += 1
 
     def server_line(self, folder: pathlib.Path, **process: Any) -> str:
         """What `status` prints of the server of a world."""
@@ -839,7 +1142,9 @@ class Trial:
     def parts(self, connections: int) -> dict[str, Callable[[], object]]:
         """Every case, by the names of the parts that try them."""
         single = (
-            self.ended_sessions, self.closed_streams, self.overstayed, self.shortage, self.lost_files, self.server_lines,
+            self.ended_sessions, self.left_at_once, self.unlimited_clients, self.closed_streams, self.overstayed, self.shortage,
+            self.lost_files, self.left_for_lost_files, self.images_down, self.syncs, self.reasons, self.made_meanwhile,
+            self.passing_shortages, self.failed_reads, self.failed_copies, self.server_lines,
             self.unread_files, self.slow_readers, self.starts_beside_looks, self.no_null, self.descriptors, self.refused_clients,
             self.lost_listener, self.unread_errors, self.broken_output, self.links, self.full_file, self.failed_start,
             self.threads, self.socket_modes, self.old_sockets, self.taken_places, self.socket_in_use, self.next_server,

@@ -240,8 +240,12 @@ class Served:
         want(line.startswith("listening "), f"serve printed `{line}` in place of where it listens{self.complaint()}")
         return line.removeprefix("listening ")
 
-    def complaint(self) -> str:
-        """What it printed on standard error, except of opened images and the closed port or socket."""
+    def said(self) -> list[str]:
+        """The lines that it printed on standard error, except of opened images and the closed port or socket."""
         lines = self.errors.read_text().splitlines()
-        said = [line for line in lines if not re.search(" image of tick | the (port|socket) is closed", line)]
+        return [line for line in lines if not re.search(" image of tick | the (port|socket) is closed", line)]
+
+    def complaint(self) -> str:
+        """The same lines, as the end of a sentence."""
+        said = self.said()
         return f", and said `{'; '.join(said)}`" if said else ""

@@ -70,7 +70,7 @@ pub fn accept_sessions<
     ensures joined { result.closed ≢ Closed.Left
         → result.connections ≡ result.sessions.count + result.unserved }
 {
-    let Ok(mut sessions) = Sessions::new(alloc, admission.clients, asks) else {
+    let Ok(mut sessions) = Sessions::new(alloc, asks) else {
         return Accepted {
             connections: 0,
             sessions: Joined::none(),

@@ -9,6 +9,7 @@ pub struct Pulse {
     waiting: AtomicU64,
     answered: AtomicU64,
     tick: AtomicU64,
+    since: AtomicU64,
     acked: AtomicU64,
     image: AtomicU64,
 }
@@ -24,6 +25,8 @@ pub struct Counts {
     pub answered: u64,
     /// How many ticks have ended. The last ones may not be durable yet.
     pub tick: u64,
+    /// How many of them have ended since the last mark or start.
+    pub since: u64,
     /// The greatest tick that was answered or recovered.
     pub acked: u64,
     /// The tick of the newest image.
@@ -38,6 +41,7 @@ impl Pulse {
             waiting: AtomicU64::new(0),
             answered: AtomicU64::new(0),
             tick: AtomicU64::new(acked),
+            since: AtomicU64::new(0),
             acked: AtomicU64::new(acked),
             image: AtomicU64::new(image),
         }
@@ -65,9 +69,10 @@ impl Pulse {
         }
     }
 
-    /// So many ticks have ended.
-    pub fn ticks_ended(&self, ticks: u64) {
+    /// So many ticks have ended, and so many of them since the last mark or start.
+    pub fn ticks_ended(&self, ticks: u64, since: u64) {
         self.tick.store(ticks, Ordering::SeqCst);
+        self.since.store(since, Ordering::SeqCst);
     }
 
     /// The image of this tick is open.
@@ -81,6 +86,7 @@ impl Pulse {
             waiting: self.waiting.load(Ordering::SeqCst),
             answered: self.answered.load(Ordering::SeqCst),
             tick: self.tick.load(Ordering::SeqCst),
+            since: self.since.load(Ordering::SeqCst),
             acked: self.acked.load(Ordering::SeqCst),
             image: self.image.load(Ordering::SeqCst),
         }

@@ -17,6 +17,11 @@ use workers::{AskChannel, Asker, Looks};
 /// which the C library keeps five for threads to come, and 160 of these.
 const STACK_BYTES: usize = 256 * 1024;
 
+/// How many sessions that have ended may wait to be joined. The thread of a further one ends once
+/// there is room, which the next connection or the wait for the last sessions makes. Its
+/// connection is closed before.
+const ENDS: usize = 1_024;
+
 /// How long the wait for the last sessions goes without asking the door.
 const PATIENCE_MILLISECONDS: u64 = 100;
 
@@ -43,11 +48,11 @@ pub struct Sessions {
 }
 
 impl Sessions {
-    /// No session yet, of so many that may start. They ask on this channel.
-    pub fn new(alloc: Global, most: u32, asks: AskChannel) -> Result<Self, AllocError>
+    /// No session yet. They ask on this channel.
+    pub fn new(alloc: Global, asks: AskChannel) -> Result<Self, AllocError>
         ensures { IfOk result (λ sessions. sessions.started ≡ 0) }
     {
-        let (ends, ended) = bounded(alloc, most as usize)?;
+        let (ends, ended) = bounded(alloc, ENDS)?;
         Ok(Sessions {
             asks,
             running: Slab::new(alloc),
@@ -153,7 +158,7 @@ fn start_thread<R: Threads + Wait + Copy + Send + 'static, W: Door + Clone + Dro
     let (here, alloc, idle) = (*rt, shared.alloc, shared.idle);
     let serve = move || {
         let over = serve_session(&here, alloc, stream, idle, asker, looks, door);
-        let _ = ends.try_send(&here, key);
+        let _ = ends.send(&here, key);
         over
     };
     let thread = thread::Builder::new().stack_size(STACK_BYTES);

@@ -8,6 +8,8 @@
 mod opening;
 mod pace;
 mod system_file;
+mod valve;
 
 pub use pace::Pace;
 pub use system_file::FileDisk;
+pub use valve::Valve;

@@ -8,6 +8,7 @@ ghost use Rattle.file_disk.specs.KnownFile.{after_failure, CallsFile};
 
 use crate::opening::{above_streams, drop_copies, if_writable};
 use crate::pace::{Pace, Paced, pause};
+use crate::valve::{Valve, passed};
 use disk_model::Disk;
 use std::fs::{File, Metadata};
 use std::io::{self, ErrorKind};
@@ -25,6 +26,7 @@ pub struct FileDisk {
     faults: u64,
     failure: Option<io::Error>,
     paced: Option<Paced>,
+    valve: Option<Valve>,
 }
 
 impl Model for FileDisk {
@@ -101,6 +103,7 @@ impl FileDisk {
                 faults: 0,
                 failure: None,
                 paced: None,
+                valve: None,
             }),
             (Err(error), _, _) => Err(error),
             (_, Err(error), _) => Err(error),
@@ -167,6 +170,13 @@ impl FileDisk {
         ensures { self.new ≡ self.old }
     {
         self.paced = Some(Paced::by(pace));
+    }
+
+    /// Puts the file behind this valve: once it is shut each sync fails.
+    pub fn stop_by(&mut self, valve: Valve)
+        ensures { self.new ≡ self.old }
+    {
+        self.valve = Some(valve);
     }
 
     // Counts the bytes of a write. If they end a piece of a paced file, it is synced, with a pause.
@@ -255,7 +265,7 @@ impl Disk for FileDisk {
     }
 
     fn sync(&mut self) -> Result<(), Refusal> {
-        let answer = self.file.sync_data();
+        let answer = passed(&self.valve, self.file.sync_data());
         if let Some(paced) = &mut self.paced {
             paced.synced();
         }

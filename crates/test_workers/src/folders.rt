@@ -3,7 +3,9 @@ use crate::same::same;
 use disk_model::FourFiles;
 use std::alloc::Global;
 use std::process::Abort;
-use world_folder::{Listed, ModelFolder, Noted, OnLoss, create_listed, create_zeros};
+use world_folder::{
+    Checks, Ending, Guard, Listed, ModelFolder, Noted, OnLoss, create_listed, create_zeros,
+};
 use world_reports::{copy_into, report_status, report_world, salvage_into};
 
 fn no_bytes(alloc: Global) -> FourFiles<Vec<u8>> {
@@ -26,7 +28,7 @@ fn each(there: bool) -> FourFiles<bool> {
 
 // The bytes of the files of a new world of two cells.
 fn world_bytes(rt: &impl Abort, alloc: Global) -> FourFiles<Vec<u8>> {
-    let listed = Listed::read(alloc, b"5\n7\n").expect(rt, "two words");
+    let listed = Listed::read(alloc, b"5\n7\n", None).expect(rt, "two words");
     let mut folder = ModelFolder::new(alloc, no_bytes(alloc), each(false));
     let made = create_listed(alloc, &mut folder, "D", &listed);
     let (mut files, made) = made.expect(rt, "a world");
@@ -97,9 +99,9 @@ fn with_a_gap(rt: &impl Abort, alloc: Global) -> ModelFolder {
 fn a_world_is_recovered_and_its_status_printed(rt: HostRuntime) {
     let alloc = rt.alloc();
     let mut folder = ModelFolder::new(alloc, world_bytes(&rt, alloc), each(true));
-    assert!(rt; report_world(alloc, &mut folder, "D", OnLoss::Warn).is_ok());
+    assert!(rt; report_world(alloc, &mut folder, "D", Checks::of(OnLoss::Warn)).is_ok());
     is_last(&rt, &folder, "recovered 0 from 0");
-    assert!(rt; report_status(alloc, &mut folder, "D", OnLoss::Warn).is_ok());
+    assert!(rt; report_status(alloc, &mut folder, "D", Checks::of(OnLoss::Warn)).is_ok());
     is_last(&rt, &folder, "server: none");
 }
 
@@ -107,15 +109,49 @@ fn a_world_is_recovered_and_its_status_printed(rt: HostRuntime) {
 fn a_loss_is_named_and_refused_if_asked(rt: HostRuntime) {
     let alloc = rt.alloc();
     let mut folder = with_a_gap(&rt, alloc);
-    assert!(rt; report_world(alloc, &mut folder, "D", OnLoss::Warn).is_ok());
+    assert!(rt; report_world(alloc, &mut folder, "D", Checks::of(OnLoss::Warn)).is_ok());
     is_last(&rt, &folder, "recovered 0 from 0");
     is_warned(
         &rt,
         &folder,
         "worldd: log.b begins after ticks that were lost",
     );
-    let refused = report_world(alloc, &mut with_a_gap(&rt, alloc), "D", OnLoss::Refuse);
+    let refused = report_world(
+        alloc,
+        &mut with_a_gap(&rt, alloc),
+        "D",
+        Checks::of(OnLoss::Refuse),
+    );
     assert!(rt; refused.is_err());
+}
+
+#[test]
+fn an_older_world_is_named_and_refused_if_asked(rt: HostRuntime) {
+    let alloc = rt.alloc();
+    let checks = Checks {
+        guard: Some(Guard {
+            world: 1,
+            starts: 2,
+            acked: 5,
+            image: 4,
+            seconds: 6,
+        }),
+        ..Checks::of(OnLoss::Warn)
+    };
+    let mut folder = ModelFolder::new(alloc, world_bytes(&rt, alloc), each(true));
+    let named = report_world(alloc, &mut folder, "D", checks);
+    assert!(rt; matches!(named, Ok(Ending::MayBeOlder)));
+    is_last(&rt, &folder, "recovered 0 from 0");
+    is_warned(
+        &rt,
+        &folder,
+        "worldd: tick 0 was recovered, and the guard has tick 5 at @6: restore newer files, or serve them by --accept-loss",
+    );
+    let refusing = Checks {
+        older: OnLoss::Refuse,
+        ..checks
+    };
+    assert!(rt; report_world(alloc, &mut folder, "D", refusing).is_err());
 }
 
 #[test]
@@ -123,9 +159,19 @@ fn a_world_is_copied_and_salvaged(rt: HostRuntime) {
     let alloc = rt.alloc();
     let mut from = ModelFolder::new(alloc, world_bytes(&rt, alloc), each(true));
     let mut copy = ModelFolder::new(alloc, world_bytes(&rt, alloc), each(false));
-    assert!(rt; copy_into(alloc, &mut from, "D", &mut copy, "E", OnLoss::Warn).is_ok());
+    assert!(rt;
+        copy_into(
+            alloc,
+            &mut from,
+            "D",
+            &mut copy,
+            "E",
+            Checks::of(OnLoss::Warn)
+        )
+        .is_ok()
+    );
     is_last(&rt, &copy, "backed up 0 from 0");
     let mut salvaged = ModelFolder::new(alloc, world_bytes(&rt, alloc), each(false));
-    assert!(rt; salvage_into(alloc, &mut from, "D", &mut salvaged, "F").is_ok());
-    is_last(&rt, &salvaged, "salvaged 0 from 0");
+    assert!(rt; salvage_into(alloc, &mut from, "D", &mut salvaged, "F", None).is_ok());
+    is_last(&rt, &salvaged, "dropped: log.a, log.b");
 }

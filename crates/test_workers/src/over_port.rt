@@ -18,7 +18,7 @@ use transports::Listener;
 use worker_steps::Opened;
 use worker_threads::Seats;
 use world_actions::Refusal;
-use world_folder::{Ending, OnLoss, WorldReport};
+use world_folder::{Checks, Ending, OnLoss, WorldReport};
 use world_server::{Every, Front, Line, Losses, serve_world};
 
 const BATCHES: &[u8] = b"add 0 1\nget 0\nend\nadd 0 1\nget 0\nend\n";
@@ -126,7 +126,7 @@ fn serve_two_ticks<
             clients: run.clients,
             idle: None,
         },
-        OnLoss::Warn,
+        Checks::of(OnLoss::Warn),
     );
     match served {
         Ok(served) => {

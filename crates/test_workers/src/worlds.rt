@@ -12,7 +12,7 @@ use std::io;
 use std::process::Abort;
 use std::sync::Wait;
 use worker_steps::Opened;
-use worker_threads::{Seats, TickWatch, Watch, start_world};
+use worker_threads::{Acked, Seats, TickWatch, Watch, start_world};
 use workers::{ImageWriter, Log};
 use world_actions::Refusal;
 use world_start::{fresh_files, recover_world};
@@ -53,7 +53,7 @@ impl<R: Wait + Copy> Clone for Reporter<R> {
 }
 
 impl<R: Wait + Copy> TickWatch for Reporter<R> {
-    fn ticks_ended(&mut self, _ticks: u64) {}
+    fn ticks_ended(&mut self, _ticks: u64, _since: u64) {}
 }
 
 impl<R: Wait + Copy, D: Disk + Drop> Watch<D> for Reporter<R> {
@@ -64,6 +64,8 @@ impl<R: Wait + Copy, D: Disk + Drop> Watch<D> for Reporter<R> {
     fn images_down(&mut self, _images: &ImageWriter<D>) {
         self.report(Report::ImagesDown);
     }
+
+    fn ticks_acked(&mut self, _acked: Acked) {}
 
     fn log_down(&mut self, acked: u64, _log: &Log<D>) {
         self.report(Report::LogDown(acked));

@@ -6,7 +6,7 @@ use std::alloc::Global;
 use std::sync::Wait;
 use std::thread::Threads;
 use worker_steps::{Gates, Opened};
-use worker_threads::{TickWatch, Watch, Workers, start};
+use worker_threads::{Acked, TickWatch, Watch, Workers, start};
 use workers::{AskChannel, ImageWriter, Log, Looks, Open};
 use world_actions::Refusal;
 
@@ -15,13 +15,15 @@ use world_actions::Refusal;
 struct Quiet;
 
 impl TickWatch for Quiet {
-    fn ticks_ended(&mut self, _ticks: u64) {}
+    fn ticks_ended(&mut self, _ticks: u64, _since: u64) {}
 }
 
 impl<D: Disk + Drop> Watch<D> for Quiet {
     fn image_opened(&mut self, _tick: u64) {}
 
     fn images_down(&mut self, _images: &ImageWriter<D>) {}
+
+    fn ticks_acked(&mut self, _acked: Acked) {}
 
     fn log_down(&mut self, _acked: u64, _log: &Log<D>) {}
 }

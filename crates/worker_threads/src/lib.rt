@@ -15,5 +15,5 @@ pub use cuts::stop_after;
 // Stopped workers are the ends of a world's threads.
 pub use meeting::{meet_stopped, meet_stopped as ends_meet};
 pub use threads::{NotStarted, StoppedWorkers, StoppedWorkers as Ends, Workers, start, stop};
-pub use watch::{TickWatch, Watch};
+pub use watch::{Acked, TickWatch, Watch};
 pub use world_opening::{Seats, start_world};

@@ -2,7 +2,7 @@
 ghost use Rattle.std.specs.Prelude.{◌≡◌, false};
 ghost use Rattle.worker_threads.specs.Kept.{StopsFront, MayTake, StopsBack, MayWrite, StopsLog};
 
-use crate::watch::{TickWatch, Watch};
+use crate::watch::{Acked, TickWatch, Watch};
 use crate::work::Work;
 use disk_model::Disk;
 use shared_capture::Method;
@@ -24,7 +24,7 @@ fn play_batches<R: Wait, M: Method, G: Gate + Drop, W: TickWatch>(
             mutator.stop(rt);
             return mutator;
         }
-        watch.ticks_ended(mutator.ended());
+        watch.ticks_ended(mutator.ended(), mutator.since());
     }
     unreachable!()
 }
@@ -67,6 +67,7 @@ fn write_log<R: Wait, D: Disk + Drop, G: Gate + Drop, W: Watch<D>>(
         }
         let was_down = log_writer.is_down();
         log_writer.turn(rt);
+        watch.ticks_acked(Acked::of(&log_writer));
         if log_writer.is_down() && !was_down {
             watch.log_down(log_writer.acked(), log_writer.log());
         }

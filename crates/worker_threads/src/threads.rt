@@ -119,8 +119,9 @@ type Players<M, D, A, B> = (
 );
 
 /// Starts the workers of a world. A round is due after every `every` ticks. The batches that the
-/// sessions of the returned channel send are run. The workers look for work by these looks. If the
-/// start is refused, no thread is left running.
+/// sessions of the returned channel send are run. The workers look for work by these looks. The log
+/// writer gets the watch itself, the others get clones. If the start is refused, no thread is left
+/// running.
 pub fn start<
     R: Threads + Wait + Copy + Send + 'static,
     M: Method + Send + 'static,
@@ -184,8 +185,8 @@ fn start_threads<
         ≡ record { mutator = mutator; checkpointer = checkpointer; log_writer = log_writer }) }
 {
     let watch_too = watch.clone()?;
-    let log_writer = start_log_writer(rt, watch_too, log_writer)?;
-    match start_players(rt, watch, mutator, checkpointer) {
+    let log_writer = start_log_writer(rt, watch, log_writer)?;
+    match start_players(rt, watch_too, mutator, checkpointer) {
         Ok((mutator, checkpointer)) => Ok(Workers {
             mutator,
             checkpointer,

@@ -122,6 +122,14 @@ impl<M: Method, G: Gate + Drop> Mutator<M, G> {
         self.ended
     }
 
+    /// How many of them have ended since the last mark or start. With 65,536 of them each batch is
+    /// refused with 6, until a round opens.
+    pub fn since(&self) -> u64
+        ensures { result ≡ self.now.since }
+    {
+        self.since
+    }
+
     /// Waits for the next batch, runs it and pushes its tick. Before and after it, opens a round if
     /// one is due and none is open. A batch that isn't run is answered here, by the refusal that is
     /// returned. Returns `None` if no session is left that could ask.

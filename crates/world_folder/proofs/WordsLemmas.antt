@@ -1,8 +1,9 @@
 -- Texts that list words.
-use Rattle.std.proofs.Common.{◌≡◌, inr, ℕ, zero, suc, ◌+◌, ◌<◌, List, [], ◌∷◌, ◌++◌, length, take, drop, slice_index, decimal, refl, ap, sym, subst, ◌∙◌, arith, append_assoc, length-append}
+use Rattle.std.proofs.Common.{◌≡◌, inr, ℕ, zero, suc, ◌+◌, ◌-◌, ◌<◌, List, [], ◌∷◌, ◌++◌, length, take, drop, slice_index, decimal, refl, ap, sym, subst, ◌∙◌}
+use Rattle.std.proofs.Common.{arith, append_assoc, append-nil, length-append}
 use Rattle.std.proofs.lemmas.List.{take-append-drop, drop_more, length-take}
 use Rattle.std.proofs.Math.Seq.{take-length}
-use Rattle.world_folder.specs.WordsText.{IsSeparator, HasNoSeparator, EndsPart, ListsEach, Lists, newlines}
+use Rattle.world_folder.specs.WordsText.{IsSeparator, HasNoSeparator, EndsPart, EndsLine, ListsEach, newlines}
 
 -- one word more
 pub each_more : (words front : List ℕ) (word separator : ℕ) → IsSeparator separator → ListsEach words front
@@ -17,14 +18,34 @@ each_more (first ∷ words) front word separator is listed =
       each_more words listed.1 word separator is listed.4,
     )
 
--- the last word, with nothing after it
-pub last_listed : (words front rest text : List ℕ) (word : ℕ) → text ≡ front ++ rest → take (length rest) rest ≡ decimal word
-    → ListsEach words front → Lists (words ++ word ∷ []) text
-last_listed words front rest text word is part listed =
-    let spelled : rest ≡ decimal word = sym (take-length rest) ∙ part in
-    let whole : text ++ 10 ∷ [] ≡ front ++ (decimal word ++ 10 ∷ []) =
-    ap (λ (l : List ℕ). l ++ 10 ∷ []) is ∙ append_assoc front rest (10 ∷ []) ∙ ap (λ (l : List ℕ). front ++ (l ++ 10 ∷ [])) spelled in
-    inr (subst (λ (l : List ℕ). ListsEach (words ++ word ∷ []) l) (sym whole) (each_more words front word 10 (inr refl) listed))
+-- the last byte, from one byte earlier
+last_of_more : (byte : ℕ) (bytes : List ℕ) → 0 < length bytes
+    → slice_index (byte ∷ bytes) (length (byte ∷ bytes) - 1) ≡ slice_index bytes (length bytes - 1)
+last_of_more byte [] some = absurd (omega (arith, some))
+last_of_more byte (next ∷ bytes) some =
+    let more : length (byte ∷ next ∷ bytes) - 1 ≡ suc (length bytes) = omega arith in
+    let one : length (next ∷ bytes) - 1 ≡ length bytes = omega arith in
+    ap (slice_index (byte ∷ next ∷ bytes)) more ∙ sym (ap (slice_index (next ∷ bytes)) one)
+
+last_byte : (front rest : List ℕ) → 0 < length rest
+    → slice_index (front ++ rest) (length (front ++ rest) - 1) ≡ slice_index rest (length rest - 1)
+last_byte [] rest some = refl
+last_byte (byte ∷ front) rest some = last_of_more byte (front ++ rest) (omega (arith, length-append front rest, some)) ∙ last_byte front rest some
+
+-- bytes without a separator don't end with a newline
+last_other : (bytes : List ℕ) → HasNoSeparator bytes → 0 < length bytes → slice_index bytes (length bytes - 1) ≡ 10 → ⊥
+last_other [] none some = absurd (omega (arith, some))
+last_other (byte ∷ []) none some = λ is. none.0 (inr is)
+last_other (byte ∷ next ∷ more) none some = λ is. last_other (next ∷ more) none.1 (omega arith) (sym (last_of_more byte (next ∷ more) (omega arith)) ∙ is)
+
+-- a text whose last part has no separator after it
+pub cut_off : (front rest text : List ℕ) → text ≡ front ++ rest → HasNoSeparator (take (length rest) rest) → 0 < length rest → ¬ EndsLine text
+cut_off front rest text is none some = λ ends.
+    last_other rest (subst HasNoSeparator (take-length rest) none) some (sym (last_byte front rest some) ∙ subst (λ (l : List ℕ). slice_index l (length l - 1) ≡ 10) is ends.1)
+
+-- a text of which nothing is left
+pub begun : (words front text : List ℕ) → text ≡ front ++ [] → ListsEach words front → ListsEach words text
+begun words front text is listed = subst (ListsEach words) (sym (is ∙ append-nil front)) listed
 
 pub newlines-append : (one two : List ℕ) → newlines (one ++ two) ≡ newlines one + newlines two
 newlines-append [] two = omega arith

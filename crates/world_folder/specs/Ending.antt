@@ -1,6 +1,7 @@
 -- How the program ends, and its exit statuses.
-use Rattle.std.specs.Prelude.{◌≡◌, ◌≢◌, ◌⊎◌, ℕ, List, Option, Some, None, Result, MatchResult, Vec}
-use Rattle.std.specs.IoError.{error_kind}
+use Rattle.std.specs.Prelude.{◌≡◌, ◌≢◌, ◌⊎◌, ℕ, ℤ, pos, List, Option, Some, None, Result}
+use Rattle.std.specs.Prelude.{MatchResult, Vec}
+use Rattle.std.specs.IoError.{error_kind, raw_os_error}
 use Rattle.std.specs.Path.{path_buf_bytes, path_join}
 use Rattle.std.specs.declared.alloc.Global.{Global}
 use Rattle.std.specs.declared.io.Error.{Error}
@@ -15,11 +16,14 @@ use Rattle.world_folder.specs.declared.ending.ServerEnding.TheVariants.{Listener
 use Rattle.world_folder.specs.declared.ending.ServerEnding.TheVariants.{LogDown}
 use Rattle.world_folder.specs.declared.ending.Ending.TheVariants.{Ran, HelpPrinted, Mistaken, Fault}
 use Rattle.world_folder.specs.declared.ending.Ending.TheVariants.{Unreadable, NoWorld, Unfinished}
-use Rattle.world_folder.specs.declared.ending.Ending.TheVariants.{Unlisted, Server}
+use Rattle.world_folder.specs.declared.ending.Ending.TheVariants.{Unlisted, Server, MayBeOlder}
 use Rattle.world_folder.specs.Fault.{Files, AreRead, Explains, refusal_of}
 use Rattle.world_folder.specs.declared.exit.Statuses.{Statuses}
 use Rattle.world_folder.specs.declared.exit.Statuses.TheVariants.{Plain, Detailed}
-use Rattle.world_folder.specs.declared.lost.OnLoss.{OnLoss}
+use Rattle.world_folder.specs.declared.lost.Finding.{Finding}
+use Rattle.world_folder.specs.declared.lost.Finding.TheVariants as finding
+use Rattle.world_folder.specs.declared.lost.Lost.TheVariants as lost
+use Rattle.world_folder.specs.declared.lost.Checks.{Checks}
 use Rattle.world_folder.specs.declared.words_text.BadWords.TheVariants as bad
 use Rattle.world_folder.specs.declared.unfinished.Why.{Why}
 use Rattle.world_folder.specs.declared.unfinished.Why.TheVariants as why
@@ -27,13 +31,20 @@ use Rattle.world_folder.specs.declared.world_file.Named.{Named}
 use Rattle.world_folder.specs.declared.world_file.WorldFile.{WorldFile}
 use Rattle.world_folder.specs.WorldFile.{name_of}
 
--- memory, or room on a disk, is wanting: it may be there at another try. A write that was cut
--- short is of these.
+-- the system has no descriptor, lock or buffer more, by its number of the error
+abbrev pub IsExhausted : Option ℤ → Type 0
+IsExhausted None = ⊥
+IsExhausted (Some error) =
+    (error ≡ pos 23) ⊎ ((error ≡ pos 24) ⊎ ((error ≡ pos 37) ⊎ (error ≡ pos 105)))
+
+-- memory, room on a disk, or a thing of the system is wanting: it may be there at another try. A
+-- write that was cut short is of these.
 abbrev pub IsShortage : Error → Type 0
 IsShortage error =
     (error_kind error ≡ kind.OutOfMemory)
     ⊎ ((error_kind error ≡ kind.StorageFull) ⊎ ((error_kind error ≡ kind.QuotaExceeded)
-    ⊎ ((error_kind error ≡ kind.FileTooLarge) ⊎ (error_kind error ≡ kind.WriteZero))))
+    ⊎ ((error_kind error ≡ kind.FileTooLarge) ⊎ ((error_kind error ≡ kind.WriteZero)
+    ⊎ IsExhausted (raw_os_error error)))))
 
 -- the exit status of a fault by a shortage
 abbrev pub shortage_status : Statuses → ℕ
@@ -76,6 +87,7 @@ IsStatusOfUnfinished statuses (why.File file) status = IsStatusOfError statuses 
 -- the exit status of each way to end
 abbrev pub IsStatusOf : Statuses → Ending → (status : ℕ) → Type 0
 IsStatusOf statuses Ran status = status ≡ 0
+IsStatusOf statuses MayBeOlder status = status ≡ 14
 IsStatusOf statuses HelpPrinted status = status ≡ 0
 IsStatusOf statuses Mistaken status = status ≡ 2
 IsStatusOf statuses (Fault refusal) status = IsStatusOfRefusal statuses refusal status
@@ -92,12 +104,27 @@ IsStatusOf statuses other status = status ≡ 1
 -- it is printed as a fault, with status 1 or 13
 abbrev pub IsFault : Ending → Type 0
 IsFault Ran = ⊥
+IsFault MayBeOlder = ⊥
 IsFault HelpPrinted = ⊥
 IsFault Mistaken = ⊥
 IsFault (Server ListenerFailed) = ⊥
 IsFault (Server ImagesDown) = ⊥
 IsFault (Server LogDown) = ⊥
 IsFault other = Unit {0}
+
+-- the command did its work, on a world that may be older or not
+abbrev pub IsDone : Ending → Type 0
+IsDone Ran = Unit {0}
+IsDone MayBeOlder = Unit {0}
+IsDone other = ⊥
+
+-- How a command ends that did its work on files of which this was found. The world may be older
+-- if it is older than its guard, or if a log may have been lost. Another loss changes nothing.
+abbrev pub ending_of : Option Finding → Ending
+ending_of None = Ran
+ending_of (Some (finding.Lost (lost.Older older))) = MayBeOlder
+ending_of (Some (finding.Lost other)) = Ran
+ending_of (Some (finding.Doubtful slot)) = MayBeOlder
 
 -- the ending names this error and the file of this name in a folder, or there was no
 -- memory for its path
@@ -128,8 +155,8 @@ ReportsOfFirst folder files ending =
     (λ error. ReportsOf folder (name_of files.image_a.file) error ending)
 
 -- the ending says why no world was found in the four files of a folder, which were read so
-abbrev pub ReportsWhy : OnLoss → (folder : List ℕ)
+abbrev pub ReportsWhy : Checks → (folder : List ℕ)
     → FourFiles (Named (Result (Vec ℕ Global) Error)) → Ending → Type 0
-ReportsWhy on_loss folder files (NoWorld fault) =
-    (bytes : Files) × AreRead files bytes × Explains on_loss bytes fault
-ReportsWhy on_loss folder files ending = ReportsOfFirst folder files ending
+ReportsWhy checks folder files (NoWorld fault) =
+    (bytes : Files) × AreRead files bytes × Explains checks bytes fault
+ReportsWhy checks folder files ending = ReportsOfFirst folder files ending

@@ -14,11 +14,10 @@ use Rattle.world_folder.specs.declared.world_file.Named.{Named}
 use Rattle.world_folder.specs.declared.fault.Fault.{Fault}
 use Rattle.world_folder.specs.declared.fault.Fault.TheVariants.{NoMemory, NoImage, Images, Segments}
 use Rattle.world_folder.specs.declared.fault.Fault.TheVariants.{Replay, Lost}
-use Rattle.world_folder.specs.declared.lost.Lost.TheVariants.{Image, Log, Gap}
-use Rattle.world_folder.specs.Lost.{judgement, lost_of}
+use Rattle.world_folder.specs.declared.lost.Lost.TheVariants.{Image, Log, Gap, Older}
+use Rattle.world_folder.specs.Lost.{judgement, IsRefusing}
+use Rattle.world_folder.specs.declared.lost.Checks.{Checks}
 use Rattle.world_folder.specs.declared.lost.Finding.{Finding}
-use Rattle.world_folder.specs.declared.lost.OnLoss.{OnLoss}
-use Rattle.world_folder.specs.declared.lost.OnLoss.TheVariants.{Refuse}
 
 -- the bytes of four files
 abbrev pub Files : Type 0
@@ -44,11 +43,12 @@ refusal_of Replay = refusal.BadLog
 refusal_of (Lost (Image slot)) = refusal.BadImage
 refusal_of (Lost (Log slot)) = refusal.BadLog
 refusal_of (Lost (Gap slot)) = refusal.BadLog
+refusal_of (Lost (Older older)) = refusal.BadLog
 
 -- the files in which recovery finds this aren't refused, and this is named of them
-abbrev pub AreJudged : OnLoss → Files → Recovered → Option Finding → Type 0
-AreJudged on_loss files found named =
-    judgement on_loss found.tick found.from files.image_a.items files.image_b.items
+abbrev pub AreJudged : Checks → Files → Recovered → Option Finding → Type 0
+AreJudged checks files found named =
+    judgement checks found.tick found.from files.image_a.items files.image_b.items
     files.log_a.items files.log_b.items ≡ Ok named
 
 -- recovery refuses the four files with this
@@ -57,25 +57,24 @@ IsRefused files refused =
     Recovers files.image_a.items files.image_b.items files.log_a.items
     files.log_b.items (Err refused)
 
--- A fault is true of the four files, of which a loss is refused or isn't. NoMemory says nothing
--- of them.
-abbrev pub Explains : OnLoss → Files → Fault → Type 0
-Explains on_loss files NoMemory = Unit {0}
-Explains on_loss files NoImage = IsRefused files refusal.NoImage
-Explains on_loss files (Images damaged) =
+-- A fault is true of the four files by these checks. NoMemory says nothing of them.
+abbrev pub Explains : Checks → Files → Fault → Type 0
+Explains checks files NoMemory = Unit {0}
+Explains checks files NoImage = IsRefused files refusal.NoImage
+Explains checks files (Images damaged) =
     IsRefused files refusal.BadImage
     × (damaged.a ≡ is_bad_image (image_of files.image_a.items))
     × (damaged.b ≡ is_bad_image (image_of files.image_b.items))
-Explains on_loss files (Segments damaged) =
+Explains checks files (Segments damaged) =
     IsRefused files refusal.BadLog
     × (IsTrue damaged.a ↔ IsSegment files.log_a.items MalformedSegment)
     × (IsTrue damaged.b ↔ IsSegment files.log_b.items MalformedSegment)
     × (damaged.a || damaged.b ≡ true)
-Explains on_loss files Replay =
+Explains checks files Replay =
     IsRefused files refusal.BadLog
     × ¬ IsSegment files.log_a.items MalformedSegment
     × ¬ IsSegment files.log_b.items MalformedSegment
-Explains on_loss files (Lost lost) =
-    (on_loss ≡ Refuse) × (found : Recovered) × Stands files found
-    × (lost_of on_loss found.tick found.from files.image_a.items files.image_b.items
-    files.log_a.items files.log_b.items ≡ Some lost)
+Explains checks files (Lost lost) =
+    IsRefusing checks lost × (found : Recovered) × Stands files found
+    × (judgement checks found.tick found.from files.image_a.items files.image_b.items
+    files.log_a.items files.log_b.items ≡ Err lost)

@@ -1,13 +1,16 @@
 -- The calls that a program made in a folder, and the lines that it printed: its history, the
 -- latest one first.
-use Rattle.std.specs.Prelude.{◌≡◌, ℕ, List, ◌∷◌, Option, Some, None}
+use Rattle.std.specs.Prelude.{◌≡◌, ◌⊎◌, ℕ, List, ◌∷◌, Option, Some, None}
+use Rattle.std.specs.IoError.{error_kind}
+use Rattle.std.specs.declared.io.Error.{Error}
+use Rattle.std.specs.declared.io.ErrorKind.TheVariants.{OutOfMemory}
 use Rattle.disk_model.specs.declared.four_files.FourFiles.{FourFiles}
 use Rattle.world_folder.specs.declared.entry.Entry.{Entry}
 use Rattle.world_folder.specs.declared.locks.LockState.{LockState}
 use Rattle.world_folder.specs.declared.world_file.WorldFile.{WorldFile}
 use Rattle.world_folder.specs.declared.world_file.WorldFile.TheVariants.{ImageA, ImageB, LogA, LogB}
 
--- a call that succeeded, with its answer
+-- a call that succeeded, with its answer, or a failure that is noted
 pub data Act : Type 0 where
   -- this is what stands under a name, if anything does
   Looked : WorldFile → Option Entry → Act
@@ -19,16 +22,24 @@ pub data Act : Type 0 where
   Locked : Entry → Act
   -- the file to which a name leads was opened to be read, and has these bytes
   Read : WorldFile → List ℕ → Act
+  -- the file to which a name leads could not be opened to be read
+  Unopened : WorldFile → Act
   -- the file to which a name leads is so long
   Measured : WorldFile → ℕ → Act
   -- a reader asked for the lock of the file to which a name leads
   Asked : WorldFile → LockState → Act
+  -- a reader asked for the lock of the folder itself
+  AskedOwn : LockState → Act
   -- the names of the folder's files are durable
   NamesSynced : Act
   -- the name of the folder itself is durable
   OwnNameSynced : Act
+  -- the file under a name was removed
+  Removed : WorldFile → Act
   -- the folder has no file
   FoundEmpty : Act
+  -- the folder doesn't lie in the folder at this path
+  FoundOutside : List ℕ → Act
   -- a line with this text was printed, on standard output or on standard error
   Printed : List ℕ → Act
   Warned : List ℕ → Act
@@ -53,6 +64,11 @@ IsPrinted None before after = (text : List ℕ) × (after ≡ Printed text ∷ b
 abbrev pub IsWarned : Option (List ℕ) → (before after : List Act) → Type 0
 IsWarned (Some text) before after = after ≡ Warned text ∷ before
 IsWarned None before after = (text : List ℕ) × (after ≡ Warned text ∷ before)
+
+-- A file could not be opened to be read. That is noted, except if memory ran out.
+abbrev pub IsUnopened : (file : WorldFile) → Error → (before after : List Act) → Type 0
+IsUnopened file error before after =
+    (after ≡ Unopened file ∷ before) ⊎ ((error_kind error ≡ OutOfMemory) × (after ≡ before))
 
 -- the lock of image.a is taken, and that of no other file
 abbrev pub with_lock : WorldFile → Entry → List Act → List Act

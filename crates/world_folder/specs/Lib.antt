@@ -1,10 +1,12 @@
 pub mod WorldFile
+pub mod Guard
 pub mod Lost
 pub mod Fault
 pub mod History
 pub mod OwnFile
 pub mod Failing
 pub mod Completing
+pub mod Left
 pub mod ReadIn
 pub mod Ending
 pub mod Making

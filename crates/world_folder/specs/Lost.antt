@@ -8,13 +8,16 @@ use Rattle.file_format.specs.declared.slot.Slot.TheVariants.{A, B}
 use Rattle.file_format.specs.declared.format.Format.{Format}
 use Rattle.file_format.specs.Format.{marked_in}
 use Rattle.disk_model.specs.declared.four_files.FourFiles.{FourFiles}
+use Rattle.world_folder.specs.declared.guard.Guard.{Guard}
 use Rattle.world_folder.specs.declared.look.TheConstants.{SEGMENT_HEAD}
+use Rattle.world_folder.specs.declared.lost.Checks.{Checks}
 use Rattle.world_folder.specs.declared.lost.Lost.{Lost}
-use Rattle.world_folder.specs.declared.lost.Lost.TheVariants.{Image, Log, Gap}
+use Rattle.world_folder.specs.declared.lost.Lost.TheVariants.{Image, Log, Gap, Older}
 use Rattle.world_folder.specs.declared.lost.Finding.{Finding}
 use Rattle.world_folder.specs.declared.lost.Finding.TheVariants as finding
 use Rattle.world_folder.specs.declared.lost.OnLoss.{OnLoss}
 use Rattle.world_folder.specs.declared.lost.OnLoss.TheVariants.{Warn, Refuse}
+use Rattle.world_folder.specs.Guard.{older_than}
 
 -- an empty image beside one of a tick above 0
 abbrev pub empty_image : Slot → (from : ℕ) → List ℕ → Option Lost
@@ -49,6 +52,11 @@ abbrev pub or_else : Option Lost → Option Lost → Option Lost
 or_else (Some lost) other = Some lost
 or_else None other = other
 
+-- a file was lost
+abbrev pub IsOfFile : Lost → Type 0
+IsOfFile (Older older) = ⊥
+IsOfFile other = Unit {0}
+
 -- what was lost of four files, of which this tick is recovered from an image of the tick `from`
 abbrev pub lost_of : OnLoss → (tick from : ℕ) → (image_a image_b log_a log_b : List ℕ)
     → Option Lost
@@ -70,21 +78,49 @@ first_empty (gate ∷ rest) (other ∷ more) = None
 abbrev pub doubtful_log : (tick : ℕ) → (log_a log_b : List ℕ) → Option Slot
 doubtful_log tick log_a log_b = if nat_lt 0 tick then None else first_empty log_a log_b
 
+-- ---- a world that is older than its guard
+
+abbrev pub older_of : Option Guard → (tick : ℕ) → Option Lost
+older_of guard tick = option_map Older (older_than guard tick)
+
+abbrev pub older_finding : Option Guard → (tick : ℕ) → Option Finding
+older_finding guard tick = option_map finding.Lost (older_of guard tick)
+
 -- ---- what is done about it
 
--- what is named of four files, or what they are refused for: a loss is named or refused, and a
--- log that may have been lost is named only if losses are refused
-abbrev pub judged : OnLoss → Option Lost → (doubtful : Option Slot) → Result (Option Finding) Lost
-judged Warn None doubtful = Ok None
-judged Warn (Some lost) doubtful = Ok (Some (finding.Lost lost))
-judged Refuse None doubtful = Ok (option_map finding.Doubtful doubtful)
-judged Refuse (Some lost) doubtful = Err lost
+-- what is named if no world is older than its guard: a loss, or if losses are refused a log that
+-- may have been lost
+abbrev pub named_of : OnLoss → Option Lost → (doubtful : Option Slot) → Option Finding
+named_of Warn lost doubtful = option_map finding.Lost lost
+named_of Refuse lost doubtful = option_map finding.Doubtful doubtful
 
-abbrev pub judgement : OnLoss → (tick from : ℕ) → (image_a image_b log_a log_b : List ℕ)
+-- what is done about a world that is older than its guard, or else is named
+abbrev pub judged_older : OnLoss → (older : Option Lost) → (named : Option Finding)
     → Result (Option Finding) Lost
-judgement on_loss tick from image_a image_b log_a log_b =
-    judged on_loss (lost_of on_loss tick from image_a image_b log_a log_b)
+judged_older on_older None named = Ok named
+judged_older Warn (Some older) named = Ok (Some (finding.Lost older))
+judged_older Refuse (Some older) named = Err older
+
+-- what is named of four files, or what they are refused for
+abbrev pub judged : (on_loss on_older : OnLoss) → (lost older : Option Lost)
+    → (doubtful : Option Slot) → Result (Option Finding) Lost
+judged Refuse on_older (Some lost) older doubtful = Err lost
+judged Refuse on_older None older doubtful =
+    judged_older on_older older (named_of Refuse None doubtful)
+judged Warn on_older lost older doubtful =
+    judged_older on_older older (named_of Warn lost doubtful)
+
+abbrev pub judgement : Checks → (tick from : ℕ) → (image_a image_b log_a log_b : List ℕ)
+    → Result (Option Finding) Lost
+judgement checks tick from image_a image_b log_a log_b =
+    judged checks.lost checks.older
+    (lost_of checks.lost tick from image_a image_b log_a log_b) (older_of checks.guard tick)
     (doubtful_log tick log_a log_b)
+
+-- the checks refuse files for this
+abbrev pub IsRefusing : Checks → Lost → Type 0
+IsRefusing checks (Older older) = checks.older ≡ Refuse
+IsRefusing checks other = checks.lost ≡ Refuse
 
 -- ---- by the heads of four files
 
@@ -96,9 +132,16 @@ module _ {D : Type 0} (file : D → List ℕ) where
       (take SEGMENT_HEAD (file files.image_b))
       (take SEGMENT_HEAD (file files.log_a)) (take SEGMENT_HEAD (file files.log_b))
 
+  -- the files are refused for this
+  abbrev pub RefusedIn : Checks → (tick from : ℕ) → FourFiles D → Lost → Type 0
+  RefusedIn checks tick from files lost =
+      judgement checks tick from (take SEGMENT_HEAD (file files.image_a))
+      (take SEGMENT_HEAD (file files.image_b)) (take SEGMENT_HEAD (file files.log_a))
+      (take SEGMENT_HEAD (file files.log_b)) ≡ Err lost
+
   -- the files aren't refused, and this is named of them
-  abbrev pub JudgedIn : OnLoss → (tick from : ℕ) → FourFiles D → Option Finding → Type 0
-  JudgedIn on_loss tick from files found =
-      judgement on_loss tick from (take SEGMENT_HEAD (file files.image_a))
+  abbrev pub JudgedIn : Checks → (tick from : ℕ) → FourFiles D → Option Finding → Type 0
+  JudgedIn checks tick from files found =
+      judgement checks tick from (take SEGMENT_HEAD (file files.image_a))
       (take SEGMENT_HEAD (file files.image_b)) (take SEGMENT_HEAD (file files.log_a))
       (take SEGMENT_HEAD (file files.log_b)) ≡ Ok found

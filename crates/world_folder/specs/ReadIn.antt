@@ -8,7 +8,7 @@ use Rattle.file_readers.specs.Reading.{IsSegmentRead}
 use Rattle.world_folder.specs.declared.world_file.Named.{Named}
 use Rattle.world_folder.specs.declared.world_file.WorldFile.{WorldFile}
 use Rattle.world_folder.specs.declared.world_file.WorldFile.TheVariants.{ImageA, ImageB, LogA, LogB}
-use Rattle.world_folder.specs.History.{Act, Read, AreInTurn}
+use Rattle.world_folder.specs.History.{Act, Read, AreInTurn, IsUnopened}
 
 -- these bytes of a file are all that its format reads
 abbrev pub IsFileRead : WorldFile → (file bytes : List ℕ) → Type 0
@@ -17,14 +17,15 @@ IsFileRead ImageB file bytes = IsImageRead file bytes
 IsFileRead LogA file bytes = IsSegmentRead file bytes
 IsFileRead LogB file bytes = IsSegmentRead file bytes
 
--- The file was opened by its own name, and these are its bytes. One that can't be read may not
--- have been opened.
+-- The file was opened by its own name, and these are its bytes. Of one that can't be read the
+-- opening or the read failed.
 abbrev pub IsReadIn : (file : WorldFile) → Result (Vec ℕ Global) Error
     → (before after : List Act) → Type 0
 IsReadIn file (Ok bytes) before after =
     (content : List ℕ) × (after ≡ Read file content ∷ before) × IsFileRead file content bytes.items
 IsReadIn file (Err error) before after =
-    (after ≡ before) ⊎ ((content : List ℕ) × (after ≡ Read file content ∷ before))
+    IsUnopened file error before after
+    ⊎ ((content : List ℕ) × (after ≡ Read file content ∷ before))
 
 -- each file of four was read by its own name
 abbrev pub AreReadIn : FourFiles (Named (Result (Vec ℕ Global) Error)) → (before after : List Act)

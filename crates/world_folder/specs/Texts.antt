@@ -9,6 +9,7 @@ use Rattle.file_format.specs.declared.slot.Slot.TheVariants.{A, B}
 use Rattle.world_folder.specs.declared.fault.Damaged.{Damaged}
 use Rattle.world_folder.specs.declared.fault.Fault.{Fault}
 use Rattle.world_folder.specs.declared.fault.Fault.TheVariants as fault
+use Rattle.world_folder.specs.declared.guard.Older.{Older}
 use Rattle.world_folder.specs.declared.lost.Lost.{Lost}
 use Rattle.world_folder.specs.declared.lost.Lost.TheVariants as lost
 use Rattle.world_folder.specs.declared.lost.Finding.{Finding}
@@ -50,11 +51,19 @@ abbrev pub log_name : Slot → List ℕ
 log_name A = LOG_A.now
 log_name B = LOG_B.now
 
+-- a world that is older than its guard
+abbrev pub older_text : Older → List ℕ
+older_text older =
+    codes "tick " ++ decimal older.tick ++ codes " was recovered, and the guard has tick "
+    ++ decimal older.acked ++ codes " at @" ++ decimal older.seconds
+    ++ codes ": restore newer files, or serve them by --accept-loss"
+
 -- what was lost of four files
 abbrev pub lost_text : Lost → List ℕ
 lost_text (lost.Image slot) = image_name slot ++ codes " is empty, so it was lost"
 lost_text (lost.Log slot) = log_name slot ++ codes " is empty, so it was lost"
 lost_text (lost.Gap slot) = log_name slot ++ codes " begins after ticks that were lost"
+lost_text (lost.Older older) = older_text older
 
 -- why four files hold no world, beside the refusal
 abbrev pub reason_text : Fault → List ℕ
@@ -90,6 +99,8 @@ abbrev pub bad_words_text : BadWords → List ℕ
 bad_words_text bad.NoMemory = codes "there is no memory for its words"
 bad_words_text bad.Empty = codes "it has no word"
 bad_words_text bad.TooMany = codes "it has more than " ++ decimal CELLS ++ codes " words"
+bad_words_text bad.Cut = codes "its last line has no newline, so it may be cut off"
+bad_words_text (bad.Count count) = codes "--cells isn't the number of its words, " ++ decimal count
 bad_words_text (bad.Line line) = bad_line_text line
 
 -- a file that lists no words, and why
@@ -100,6 +111,11 @@ unlisted_text path why = path ++ codes ": " ++ bad_words_text why
 
 abbrev pub filled_text : (path : List ℕ) → List ℕ
 filled_text path = path ++ codes ": the folder isn't empty: choose an empty one"
+
+-- ---- a folder that lies in a world's folder
+
+abbrev pub inside_text : (path : List ℕ) → List ℕ
+inside_text path = path ++ codes ": it lies in the world's folder: choose one outside"
 
 -- ---- control characters
 

@@ -1,6 +1,6 @@
 -- A text that lists the words of a world.
 use Rattle.std.specs.Prelude.{◌≡◌, ◌≢◌, ◌⊎◌, ℕ, ◌+◌, ◌==◌, if◌then◌else◌, List, [], ◌∷◌, ◌++◌}
-use Rattle.std.specs.Prelude.{decimal, length}
+use Rattle.std.specs.Prelude.{◌<◌, ◌-◌, Option, Some, decimal, length, slice_index}
 use Rattle.world_actions.specs.declared.world.TheConstants.{CELLS}
 use Rattle.world_actions.specs.World.{IsWord}
 
@@ -15,9 +15,13 @@ ListsEach (word ∷ words) text =
     (separator : ℕ) × (rest : List ℕ) × IsSeparator separator
     × (text ≡ decimal word ++ separator ∷ rest) × ListsEach words rest
 
--- the same, or with nothing after the last word
+-- the last byte is a newline
+abbrev pub EndsLine : (text : List ℕ) → Type 0
+EndsLine text = (0 < length text) × (slice_index text (length text - 1) ≡ 10)
+
+-- each word, with a newline after the last one
 abbrev pub Lists : (words text : List ℕ) → Type 0
-Lists words text = ListsEach words text ⊎ ListsEach words (text ++ 10 ∷ [])
+Lists words text = ListsEach words text × EndsLine text
 
 -- how many newlines there are
 abbrev pub newlines : List ℕ → ℕ
@@ -57,3 +61,12 @@ pub record HasTooMany (text : List ℕ) : Type 0 where
   pub listed : ListsEach words front
   pub full : length words ≡ CELLS
   pub more : rest ≢ []
+
+-- a text lists so many words, and another number of them was asked for
+pub record HasOtherCount (text : List ℕ) (asked : Option ℕ) (count : ℕ) : Type 0 where
+  pub words : List ℕ
+  pub listed : Lists words text
+  pub counted : count ≡ length words
+  pub cells : ℕ
+  pub is_asked : asked ≡ Some cells
+  pub other : cells ≢ count

@@ -1,12 +1,13 @@
 //! Recovery of a world, whose files are checked for a loss.
-ghost use Rattle.std.specs.Prelude.{◌≡◌, None, take, IsTrue, IfOk, IfErr};
+ghost use Rattle.std.specs.Prelude.{◌≡◌, ◌≤◌, None, take, IsTrue, IfOk, IfErr, IfSome};
 ghost use Rattle.disk_model.specs.FourFiles.{EachFile, KeepsFile};
 ghost use Rattle.world_start.specs.Opening.{IsRead};
 ghost use Rattle.world_start.specs.Steps.{IsAhead};
 ghost use Rattle.world_folder.specs.Lost.{JudgedIn, lost_in};
+ghost use Rattle.world_folder.specs.declared.lost.OnLoss.{OnLoss};
 ghost use Rattle.world_folder.specs.Unrecovered.{IsUnrecovered};
 
-use crate::lost::{Finding, Lost, OnLoss, judge, read_heads};
+use crate::lost::{Checks, Finding, Lost, judge, read_heads};
 use capture_core::Capture;
 use disk_model::{Disk, FourFiles};
 use std::alloc::Global;
@@ -18,7 +19,7 @@ use world_start::{Start, recover_world};
 pub enum NotRecovered {
     /// Recovery refuses the files, or there was no memory, or a device failed.
     Refused(Refusal),
-    /// A world is recovered, ticks after it were answered, and losses are to be refused.
+    /// A world is recovered, ticks after it were answered, and the checks refuse that.
     Lost(Lost),
 }
 
@@ -30,12 +31,12 @@ pub struct Checked<C: Capture> {
     pub finding: Option<Finding>,
 }
 
-/// Recovers the world in the files, as `recover_world` does, and judges by their heads if ticks
-/// that were answered are in none of them. The files are only read.
+/// Recovers the world in the files, as `recover_world` does, and judges by their heads and the
+/// world's guard if ticks that were answered are in none of them. The files are only read.
 pub fn recover_checked<C: Capture + Drop, D: Disk>(
     alloc: Global,
     files: &mut FourFiles<D>,
-    on_loss: OnLoss,
+    checks: Checks,
 ) -> Result<Checked<C>, NotRecovered>
     ensures kept { IsTrue D.honest
         → EachFile files.old files.new (KeepsFile D.content D.may_leave) }
@@ -45,18 +46,21 @@ pub fn recover_checked<C: Capture + Drop, D: Disk>(
         IsRead C.content D.content D.may_leave files.old found.begun.engine
         found.begun.from files.new) }
     ensures judged { IsTrue D.honest → IfOk result (λ found.
-        JudgedIn D.content on_loss found.begun.engine.ended found.begun.from
+        JudgedIn D.content checks found.begun.engine.ended found.begun.from
         files.old found.finding) }
-    ensures whole { IsTrue D.honest → on_loss ≡ OnLoss.Refuse → IfOk result (λ found.
-        lost_in D.content on_loss found.begun.engine.ended found.begun.from files.old ≡ None) }
-    ensures refused { IfErr result (IsUnrecovered D.content D.honest on_loss files.old) }
+    ensures whole { IsTrue D.honest → checks.lost ≡ OnLoss.Refuse → IfOk result (λ found.
+        lost_in D.content checks.lost found.begun.engine.ended found.begun.from files.old
+        ≡ None) }
+    ensures newest { checks.older ≡ OnLoss.Refuse → IfOk result (λ found.
+        IfSome checks.guard (λ guard. guard.acked ≤ found.begun.engine.ended)) }
+    ensures refused { IfErr result (IsUnrecovered D.content D.honest checks files.old) }
 {
     let heads = match read_heads(alloc, files) {
         Ok(heads) => heads,
         Err(refusal) => return Err(NotRecovered::Refused(refusal)),
     };
     match recover_world(alloc, files) {
-        Ok(begun) => match judge(on_loss, begun.engine.ended, begun.from, &heads) {
+        Ok(begun) => match judge(checks, begun.engine.ended, begun.from, &heads) {
             Ok(finding) => Ok(Checked { begun, finding }),
             Err(lost) => Err(NotRecovered::Lost(lost)),
         },

@@ -1,6 +1,7 @@
 //! The four files in which a world is to be made, of those that are there and of new ones.
-ghost use Rattle.std.specs.Prelude.{◌≡◌, ◌↔◌, ◌≤◌, IsTrue, Ok, None, IfOk, IfErr, OnOk, IfSome};
-ghost use Rattle.std.specs.Prelude.{IfNone};
+ghost use Rattle.std.specs.IoError.{error_kind};
+ghost use Rattle.std.specs.Prelude.{◌≡◌, ◌≢◌, ◌↔◌, ◌≤◌, IsTrue, Ok, Err, None, IfOk, IfErr, OnOk};
+ghost use Rattle.std.specs.Prelude.{IfSome, IfNone, IsErrAnd};
 ghost use Rattle.disk_model.specs.FourFiles.{EachFile, KeepsFile};
 ghost use Rattle.world_folder.specs.Completing.{IsOccupied, IsOpenFile, IsOpenThere, IsFirstThere};
 ghost use Rattle.world_folder.specs.Completing.{NoneIsOpen, ReportsOpen, KeepsThere, IsReady};
@@ -9,6 +10,7 @@ ghost use Rattle.world_folder.specs.Ending.{IsFault, NamesFile};
 
 use crate::ending::{Ending, Occupied};
 use crate::folders::Folder;
+use crate::locks::WRITTEN;
 use crate::look::{IMAGE_HEAD, SEGMENT_HEAD};
 use crate::opening::{opened, path_of};
 use crate::own_file::take_own;
@@ -17,6 +19,7 @@ use crate::world_file::{IMAGE_A, IMAGE_B, LOG_A, LOG_B, WorldFile};
 use disk_model::{Disk, FourFiles};
 use file_format::OPEN_GATE;
 use std::alloc::Global;
+use std::io::{self, ErrorKind};
 use world_actions::Refusal;
 
 // Looks at the files of a folder that are there. If one is open, no world is made there, and the
@@ -186,11 +189,26 @@ fn make_empty<F: Folder>(
     ensures named { IfErr result (NamesFile path.now file) }
     ensures fault { IfErr result IsFault }
 {
-    let handle = folder.make(file);
+    let handle = made_alone(folder.make(file));
     let handle = opened(alloc, path, file.name(), handle)?;
     made.note(file);
     let disk = take_own(folder, file, handle);
     opened(alloc, path, file.name(), disk)
+}
+
+// What became of a file that wasn't there before it was made. If it is there now, another program
+// has begun to make a world meanwhile.
+fn made_alone<T>(answer: io::Result<T>) -> io::Result<T>
+    ensures ok { IfOk answer (λ value. result ≡ Ok value) }
+    ensures meanwhile { IfErr answer (λ error. error_kind error ≡ ErrorKind.AlreadyExists
+        → IsErrAnd result (λ other. error_kind other ≡ ErrorKind.Other)) }
+    ensures other { IfErr answer (λ error. error_kind error ≢ ErrorKind.AlreadyExists
+        → result ≡ Err error) }
+{
+    match answer {
+        Err(error) if error.kind() == ErrorKind::AlreadyExists => Err(io::Error::other(WRITTEN)),
+        answer => answer,
+    }
 }
 
 /// The four files in which a world is to be made: those that are there, and new ones. If one that

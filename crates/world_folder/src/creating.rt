@@ -1,4 +1,5 @@
 ghost use Rattle.std.specs.Prelude.{◌≡◌, ◌≢◌, ◌∷◌, ◌≤◌, ◌<◌, Some, length, IsTrue, IfOk, IfErr};
+ghost use Rattle.std.specs.Prelude.{IfSome};
 ghost use Rattle.std.specs.Io.KnownBytes.{Consumes, IsAtEnd};
 ghost use Rattle.world_actions.specs.declared.world.TheConstants.{CELLS};
 ghost use Rattle.world_actions.specs.World.{IsWorld};
@@ -14,6 +15,7 @@ use crate::completing::complete;
 use crate::ending::{Ending, Unlisted, unprinted};
 use crate::folders::{Folder, WorldDisk};
 use crate::forward::read_forward;
+use crate::guard_file::unguarded;
 use crate::making::{Made, make_in, make_of_words};
 use crate::opening::{failure_of, failure_of_present, opened, path_of, sync_names};
 use crate::present::open_present;
@@ -37,6 +39,7 @@ pub fn create<R: Files<File = File> + Clock + Print + Eprint + AllocGlobal>(
     ensures made { IfOk result (λ made. made.cells ≡ cells) }
     ensures fault { IfErr result IsFault }
 {
+    unguarded(rt, folder)?;
     let mut system = SystemFolder::new(rt, folder);
     match create_zeros(rt.alloc(), &mut system, folder, cells) {
         Ok((_, made)) => Ok(made),
@@ -100,16 +103,19 @@ fn make_zeros<F: Folder>(
 }
 
 /// Makes the files of a world of the words that a file lists, at tick 0, in a folder of the system,
-/// as `create_listed` does. A file that lists no words of a world is refused before anything is
-/// opened in the folder.
+/// as `create_listed` does. A file that lists no words of a world, or another number of them than
+/// is asked for, is refused before anything is opened in the folder.
 pub fn create_of_words<R: Files<File = File> + Clock + Print + Eprint + AllocGlobal>(
     rt: &R,
     folder: &str,
     list: &str,
+    asked: Option<u32>,
 ) -> Result<Made, Ending>
+    ensures cells { IfOk result (λ made. IfSome asked (λ cells. made.cells ≡ cells)) }
     ensures fault { IfErr result IsFault }
 {
-    let listed = read_list(rt, list)?;
+    let listed = read_list(rt, list, asked)?;
+    unguarded(rt, folder)?;
     let mut system = SystemFolder::new(rt, folder);
     match create_listed(rt.alloc(), &mut system, folder, &listed) {
         Ok((_, made)) => Ok(made),
@@ -197,13 +203,19 @@ fn four_files<F: Folder>(
     Ok(files)
 }
 
-// The words that a file lists.
-fn read_list<R: Files<File = File> + AllocGlobal>(rt: &R, list: &str) -> Result<Listed, Ending>
+// The words that a file lists, which has to be of the number of cells that is asked for.
+fn read_list<R: Files<File = File> + AllocGlobal>(
+    rt: &R,
+    list: &str,
+    asked: Option<u32>,
+) -> Result<Listed, Ending>
     ensures world { IfOk result (λ listed. IsWorld listed.words.items) }
+    ensures count { IfOk result (λ listed. IfSome asked (λ cells.
+        length listed.words.items ≡ cells)) }
     ensures fault { IfErr result IsFault }
 {
     let text = opened(rt.alloc(), "", list, read_list_file(rt, list))?;
-    match Listed::read(rt.alloc(), &text) {
+    match Listed::read(rt.alloc(), &text, asked) {
         Ok(listed) => Ok(listed),
         Err(why) => Err(unlisted(rt.alloc(), list, why)),
     }

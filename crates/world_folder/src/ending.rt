@@ -2,11 +2,12 @@ ghost use Rattle.std.specs.Prelude.{◌≡◌, Some};
 ghost use Rattle.std.specs.Path.{path_buf_bytes};
 ghost use Rattle.world_folder.specs.Completing.{IsOccupied};
 ghost use Rattle.world_folder.specs.Ending.{IsFault};
-ghost use Rattle.world_folder.specs.Texts.{filled_text, unlisted_text};
+ghost use Rattle.world_folder.specs.Texts.{filled_text, inside_text, unlisted_text};
 
 use crate::fault::Fault;
+use crate::lost::{Finding, Lost};
 use crate::opening::Unreadable;
-use crate::system_error::refusal_of;
+use crate::system_error::{Reason, refusal_of};
 use crate::unfinished::Unfinished;
 use crate::words_text::BadWords;
 use std::alloc::AllocError;
@@ -19,6 +20,9 @@ use world_actions::Refusal;
 pub enum Ending {
     /// The command did its work.
     Ran,
+    /// The command did its work. Ticks that were answered may be missing from the world that it
+    /// found.
+    MayBeOlder,
     /// The help or the version was printed.
     HelpPrinted,
     /// The command line is wrong.
@@ -35,6 +39,8 @@ pub enum Ending {
     Unfinished(Unfinished),
     /// A copy can't be made in this folder.
     Filled(Filled),
+    /// A copy can't be made in the world's own folder.
+    Inside(Inside),
     /// A world can't be made of the words in this file.
     Unlisted(Unlisted),
     /// A standard stream can't be read or written.
@@ -88,6 +94,24 @@ impl fmt::Display for Filled {
     }
 }
 
+/// A folder that lies in a world's folder.
+#[derive(Debug, Drop)]
+pub struct Inside {
+    pub path: PathBuf,
+}
+
+impl fmt::Display for Inside {
+    ghost output = { λ inside. Some (inside_text (path_buf_bytes inside.path)) };
+
+    fn fmt<W: fmt::Write>(&self, f: &mut fmt::Formatter<W>) -> fmt::Result {
+        write!(
+            f,
+            "{}: it lies in the world's folder: choose one outside",
+            self.path.as_str()
+        )
+    }
+}
+
 /// A file that doesn't list the words of a world, and why.
 #[derive(Debug, Drop)]
 pub struct Unlisted {
@@ -112,7 +136,7 @@ pub struct NoPort {
 
 impl fmt::Display for NoPort {
     fn fmt<W: fmt::Write>(&self, f: &mut fmt::Formatter<W>) -> fmt::Result {
-        write!(f, "port {}: {}", self.port, self.error)
+        write!(f, "port {}: {}", self.port, Reason(self.error))
     }
 }
 
@@ -133,14 +157,15 @@ pub struct StreamFailure {
 impl fmt::Display for StreamFailure {
     fn fmt<W: fmt::Write>(&self, f: &mut fmt::Formatter<W>) -> fmt::Result {
         match self.stream {
-            Stream::Input => write!(f, "standard input: {}", self.error),
-            Stream::Output => write!(f, "standard output: {}", self.error),
+            Stream::Input => write!(f, "standard input: {}", Reason(self.error)),
+            Stream::Output => write!(f, "standard output: {}", Reason(self.error)),
         }
     }
 }
 
 impl Ending {
-    ghost use Rattle.std.specs.Prelude.{◌≡◌, Ok, Err, IsOk, IfErr};
+    ghost use Rattle.std.specs.Prelude.{◌≡◌, Ok, Err, IsOk, IfOk, IfErr};
+    ghost use Rattle.world_folder.specs.Ending.{IsDone, ending_of};
 
     /// The end of a run.
     pub fn of_run(run: Result<(), Refusal>) -> Self
@@ -150,6 +175,27 @@ impl Ending {
         match run {
             Ok(()) => Ending::Ran,
             Err(refusal) => Ending::Fault(refusal),
+        }
+    }
+
+    /// The end of a command that did its work on files of which this was found.
+    pub fn of_finding(finding: Option<Finding>) -> Self
+        ensures ends { result ≡ ending_of finding }
+        ensures done { IsDone result }
+    {
+        match finding {
+            Some(Finding::Doubtful(_) | Finding::Lost(Lost::Older(_))) => Ending::MayBeOlder,
+            Some(Finding::Lost(_)) | None => Ending::Ran,
+        }
+    }
+
+    /// The end of a command that returns its ending either way.
+    pub fn of_either(run: Result<Self, Self>) -> Self
+        ensures well { IfOk run (λ ending. result ≡ ending) }
+        ensures fails { IfErr run (λ ending. result ≡ ending) }
+    {
+        match run {
+            Ok(ending) | Err(ending) => ending,
         }
     }
 

@@ -18,7 +18,8 @@ use world_actions::Refusal;
 /// The exit statuses of a program.
 #[derive(Clone, Copy, Debug, PartialEq, Eq)]
 pub enum Statuses {
-    /// 0, 1 after a fault, 2 for a wrong command line, and 11 and 12 of a server.
+    /// 0, 1 after a fault, 2 for a wrong command line, 11 and 12 of a server, and 14 of a command
+    /// whose world may be older.
     Plain,
     /// Beside these 13 after a shortage, and 10 of a server whose listener failed.
     Detailed,
@@ -57,6 +58,7 @@ fn report_ending<R: Eprint>(rt: &R, statuses: Statuses, ending: Ending) -> ExitC
 {
     match ending {
         Ending::Ran | Ending::HelpPrinted => ExitCode::SUCCESS,
+        Ending::MayBeOlder => ExitCode::from(14),
         Ending::Mistaken => ExitCode::from(2),
         Ending::Fault(refusal) => report_fault(rt, statuses, refusal, refusal),
         Ending::Unreadable(file) => report_error(rt, statuses, file.error, file),
@@ -64,6 +66,7 @@ fn report_ending<R: Eprint>(rt: &R, statuses: Statuses, ending: Ending) -> ExitC
         Ending::Occupied(file) => report_fault(rt, statuses, Refusal::NotEmpty, file),
         Ending::Unfinished(unfinished) => report_unfinished(rt, statuses, unfinished),
         Ending::Filled(folder) => report_fault(rt, statuses, Refusal::NotEmpty, folder),
+        Ending::Inside(folder) => report_fault(rt, statuses, Refusal::NotEmpty, folder),
         Ending::Unlisted(file) => report_fault(rt, statuses, file.why.refusal(), file),
         Ending::Stream(failure) => report_stream(rt, failure),
         Ending::Server(ending) => report_server(rt, statuses, ending),

@@ -3,10 +3,10 @@ ghost use Rattle.image_files.specs.Image.{image_of};
 ghost use Rattle.action_log.specs.Segment.{MalformedSegment, IsSegment};
 ghost use Rattle.recovery.specs.Recovery.{Recovers, is_bad_image};
 ghost use Rattle.world_folder.specs.Fault.{Stands, AreJudged, Explains};
-ghost use Rattle.world_folder.specs.declared.lost.OnLoss.{OnLoss as Asked};
+ghost use Rattle.world_folder.specs.declared.lost.Checks.{Checks as Asked};
 ghost use Rattle.world_folder.specs.Texts.{damaged_names, reason_text};
 
-use crate::lost::{Finding, Lost, OnLoss, judge};
+use crate::lost::{Checks, Finding, Lost, judge};
 use crate::world_file::{IMAGE_A, IMAGE_B, LOG_A, LOG_B};
 use action_log::judge_log;
 use disk_model::FourFiles;
@@ -54,7 +54,7 @@ impl Fault {
             Fault::Images(_) => Refusal::BadImage,
             Fault::Segments(_) | Fault::Replay => Refusal::BadLog,
             Fault::Lost(Lost::Image(_)) => Refusal::BadImage,
-            Fault::Lost(Lost::Log(_) | Lost::Gap(_)) => Refusal::BadLog,
+            Fault::Lost(Lost::Log(_) | Lost::Gap(_) | Lost::Older(_)) => Refusal::BadLog,
         }
     }
 }
@@ -116,16 +116,16 @@ pub struct Found {
     pub finding: Option<Finding>,
 }
 
-/// The world that four files hold, or the reason why they hold none. If losses are refused, a world
-/// that lacks ticks which were answered is none.
-pub fn stands_in(alloc: Global, files: &FourFiles<Vec<u8>>, on_loss: OnLoss) -> Result<Found, Fault>
+/// The world that four files hold, or the reason why they hold none. A world that the checks refuse
+/// is none.
+pub fn stands_in(alloc: Global, files: &FourFiles<Vec<u8>>, checks: Checks) -> Result<Found, Fault>
     ensures recovered { IfOk result (λ found. Stands files.now found.world) }
     ensures judged { IfOk result (λ found.
-        AreJudged on_loss files.now found.world found.finding) }
-    ensures fault { IfErr result (Explains on_loss files.now) }
+        AreJudged checks files.now found.world found.finding) }
+    ensures fault { IfErr result (Explains checks files.now) }
 {
     let world = found_in(alloc, files)?;
-    match judge(on_loss, world.tick, world.from, files) {
+    match judge(checks, world.tick, world.from, files) {
         Ok(finding) => Ok(Found { world, finding }),
         Err(lost) => Err(Fault::Lost(lost)),
     }

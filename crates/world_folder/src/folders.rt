@@ -1,12 +1,14 @@
 //! The calls of the system that the commands make in one folder, and the lines that they print.
-ghost use Rattle.std.specs.Prelude.{◌≡◌, ◌∷◌, [], ℕ, Bool, true, Ok, List, Option, Some, None};
-ghost use Rattle.std.specs.Prelude.{IsTrue, IfOk, OnOk, OnErr};
+ghost use Rattle.std.specs.Prelude.{◌≡◌, ◌∷◌, [], ℕ, Bool, true, false, Ok, List, Option, Some};
+ghost use Rattle.std.specs.Prelude.{None, ◌≢◌};
+ghost use Rattle.std.specs.Prelude.{IsTrue, IfOk, IfErr, OnOk, OnErr};
 ghost use Rattle.std.specs.declared.io.Error.{Error};
 ghost use Rattle.std.proofs.lemmas.Bool.{false≢true};
 ghost use Rattle.disk_model.specs.Disk.{Only};
 ghost use Rattle.world_folder.specs.History.{Act, Looked, Opened, Made, Locked, Read, Measured};
-ghost use Rattle.world_folder.specs.History.{Asked, NamesSynced, OwnNameSynced, FoundEmpty};
-ghost use Rattle.world_folder.specs.History.{IsPrinted, IsWarned};
+ghost use Rattle.world_folder.specs.History.{Asked, AskedOwn, NamesSynced, OwnNameSynced};
+ghost use Rattle.world_folder.specs.History.{FoundEmpty, FoundOutside, Removed};
+ghost use Rattle.world_folder.specs.History.{IsPrinted, IsWarned, IsUnopened};
 ghost use Rattle.world_folder.specs.declared.entry.Entry.{Entry as FileEntry};
 ghost use Rattle.world_folder.specs.declared.entry.Identity.{Identity as FileIdentity};
 
@@ -46,7 +48,7 @@ impl WorldDisk for FileDisk {
 }
 
 /// A folder of the system with the four files of a world. A call that fails is no
-/// part of its history.
+/// part of its history, except for a file that can't be opened to be read.
 pub trait Folder {
     /// A file that is open to be written.
     type Handle: Drop;
@@ -86,14 +88,22 @@ pub trait Folder {
         ensures made { IsTrue honest
             → IfOk result (λ handle. history self.new
             ≡ Made file (entry_of handle) ∷ history self.old) }
-        ensures empty { IsTrue honest → IfOk result (λ handle. content_of handle ≡ []) };
+        ensures empty { IsTrue honest → IfOk result (λ handle. content_of handle ≡ []) }
+        ensures failed { IsTrue honest → OnErr result (history self.new ≡ history self.old) };
+
+    /// Removes the file under a name.
+    fn remove(&mut self, file: WorldFile) -> io::Result<()>
+        ensures removed { IsTrue honest
+            → OnOk result (history self.new ≡ Removed file ∷ history self.old) }
+        ensures failed { IsTrue honest → OnErr result (history self.new ≡ history self.old) };
 
     /// Opens the file to which a name leads, only to read it.
     fn open_to_read(&mut self, file: WorldFile, how: Reading) -> io::Result<Self::File>
         ensures read { IsTrue honest
             → IfOk result (λ disk. history self.new
             ≡ Read file (Self.File.content disk) ∷ history self.old) }
-        ensures failed { IsTrue honest → OnErr result (history self.new ≡ history self.old) };
+        ensures failed { IsTrue honest
+            → IfErr result (λ error. IsUnopened file error (history self.old) (history self.new)) };
 
     /// Describes an open file.
     fn entry(&mut self, handle: &Self::Handle) -> io::Result<Entry>
@@ -118,27 +128,39 @@ pub trait Folder {
     /// Makes the names of the files durable.
     fn sync_names(&mut self) -> io::Result<()>
         ensures synced { IsTrue honest
-            → OnOk result (history self.new ≡ NamesSynced ∷ history self.old) };
+            → OnOk result (history self.new ≡ NamesSynced ∷ history self.old) }
+        ensures failed { IsTrue honest → OnErr result (history self.new ≡ history self.old) };
 
     /// Makes the name of the folder durable.
     fn sync_own_name(&mut self) -> io::Result<()>
         ensures synced { IsTrue honest
-            → OnOk result (history self.new ≡ OwnNameSynced ∷ history self.old) };
+            → OnOk result (history self.new ≡ OwnNameSynced ∷ history self.old) }
+        ensures failed { IsTrue honest → OnErr result (history self.new ≡ history self.old) };
 
     /// Prints a line on standard output.
     fn print<T: Display + Drop>(&mut self, line: T) -> io::Result<()>
         ensures printed { IsTrue honest
-            → OnOk result (IsPrinted (T.output line) (history self.old) (history self.new)) };
+            → OnOk result (IsPrinted (T.output line) (history self.old) (history self.new)) }
+        ensures failed { IsTrue honest → OnErr result (history self.new ≡ history self.old) };
 
     /// Prints a line on standard error, if that can be written. It is no error if it can't.
     fn warn<T: Display + Drop>(&mut self, line: T) -> io::Result<()>
         ensures warned { IsTrue honest
-            → OnOk result (IsWarned (T.output line) (history self.old) (history self.new)) };
+            → OnOk result (IsWarned (T.output line) (history self.old) (history self.new)) }
+        ensures failed { IsTrue honest → OnErr result (history self.new ≡ history self.old) };
 
     /// True if the folder has no file.
     fn is_empty(&mut self) -> io::Result<bool>
         ensures empty { IsTrue honest → result ≡ Ok true
-            → history self.new ≡ FoundEmpty ∷ history self.old };
+            → history self.new ≡ FoundEmpty ∷ history self.old }
+        ensures other { IsTrue honest → result ≢ Ok true → history self.new ≡ history self.old };
+
+    /// True if the folder lies in the one at a path, at any depth. A path that leads to no folder
+    /// has none in it.
+    fn lies_in(&mut self, path: &str) -> io::Result<bool>
+        ensures outside { IsTrue honest → result ≡ Ok false
+            → history self.new ≡ FoundOutside path.now ∷ history self.old }
+        ensures other { IsTrue honest → result ≢ Ok false → history self.new ≡ history self.old };
 
     /// How long the file is to which a name leads.
     fn length(&mut self, file: WorldFile) -> io::Result<u64>
@@ -151,6 +173,11 @@ pub trait Folder {
     fn lock_state(&mut self, file: WorldFile) -> io::Result<LockState>
         ensures asked { IsTrue honest
             → IfOk result (λ state. history self.new ≡ Asked file state ∷ history self.old) };
+
+    /// The same of the lock of the folder itself.
+    fn own_lock_state(&mut self) -> io::Result<LockState>
+        ensures asked { IsTrue honest
+            → IfOk result (λ state. history self.new ≡ AskedOwn state ∷ history self.old) };
 
     /// Waits a moment.
     fn pause(&mut self)

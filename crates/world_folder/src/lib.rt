@@ -17,6 +17,8 @@ mod fault;
 mod folders;
 mod forward;
 mod found;
+mod guard;
+mod guard_file;
 mod laws;
 mod locks;
 mod look;
@@ -36,24 +38,30 @@ mod world_file;
 
 pub use checked::{Checked, NotRecovered, recover_checked};
 pub use creating::{create, create_listed, create_of_words, create_zeros};
-pub use ending::{Ending, Filled, NoPort, Occupied, ServerEnding, Stream, StreamFailure, Unlisted};
+pub use ending::{
+    Ending, Filled, Inside, NoPort, Occupied, ServerEnding, Stream, StreamFailure, Unlisted,
+};
 pub use entry::{Entry, FileKind, Identity};
 pub use escaped::Escaped;
 pub use exit::{Exit, Statuses};
 pub use fault::{Damaged, Fault, Found, stands_in};
 pub use folders::{Folder, Reading, WorldDisk};
 pub use found::{FoundReport, WorldReport};
+pub use guard::{GUARD, Guard, Older};
+pub use guard_file::{
+    checks_in, guarded, new_guard, put_guard, read_guard, remove_guard, seconds_now,
+};
 pub use laws::{copies_are_of_a_moment, sound_files_have_no_gap};
 pub use locks::{LockState, lock};
 pub use look::{IMAGE_HEAD, Look, SEGMENT_HEAD, look_at, read_head};
-pub use lost::{Finding, Lost, OnLoss};
+pub use lost::{Checks, Finding, Lost, OnLoss, older_finding};
 pub use making::{Made, make_in, make_of_words};
 pub use model_folder::{ModelDisk, ModelFolder, ModelHandle};
 pub use noted::Noted;
 pub use opening::{
     Unreadable, ending_for, failure_of, open_existing, open_files, opened, path_of, sync_names,
 };
-pub use reading::{all_read, answered, read_folder, read_whole};
+pub use reading::{all_read, answered, read_file, read_folder, read_whole};
 pub use system_error::Reason;
 pub use system_folder::SystemFolder;
 pub use unfinished::{MadeFiles, Unfinished, Why};

@@ -13,7 +13,7 @@ const TRIES: u32 = 1_000;
 const PAUSE_MILLISECONDS: u64 = 1;
 
 /// Why a file isn't locked that a writer has.
-const WRITTEN: &str = "another program writes this world";
+pub const WRITTEN: &str = "another program writes this world";
 
 /// Why a file isn't locked that a reader has at each try.
 const READ: &str = "a program that looks at this world keeps its lock";

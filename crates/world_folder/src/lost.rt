@@ -1,10 +1,12 @@
 //! Files of which one looks lost or emptied, so that ticks that were answered are in none.
-ghost use Rattle.std.specs.Prelude.{◌≡◌, ◌⊎◌, take, IsTrue, IfOk, IfErr, Some, None};
+ghost use Rattle.std.specs.Prelude.{◌≡◌, ◌≤◌, ◌⊎◌, take, IsTrue, IfOk, IfErr, IfSome, Some, None};
 ghost use Rattle.disk_model.specs.FourFiles.{EachFile, KeepsFile};
 ghost use Rattle.world_folder.specs.Lost.{begins_after, doubtful_log, empty_image, first_empty};
-ghost use Rattle.world_folder.specs.Lost.{judgement, lost_log, lost_of, reached};
+ghost use Rattle.world_folder.specs.Lost.{judged_older, judgement, lost_log, lost_of, reached};
+ghost use Rattle.world_folder.specs.Lost.{older_finding, older_of, IsOfFile, IsRefusing};
 ghost use Rattle.world_folder.specs.Texts.{finding_text, lost_text};
 
+use crate::guard::{Guard, Older};
 use crate::look::{SEGMENT_HEAD, read_head};
 use crate::world_file::{IMAGE_A, IMAGE_B, LOG_A, LOG_B};
 use disk_model::{Disk, FourFiles};
@@ -22,6 +24,30 @@ pub enum OnLoss {
     Refuse,
 }
 
+/// The checks of four files before their world is used.
+#[derive(Clone, Copy, Debug, PartialEq, Eq)]
+pub struct Checks {
+    /// The treatment of files of which one looks lost.
+    pub lost: OnLoss,
+    /// The treatment of a world that is older than its guard.
+    pub older: OnLoss,
+    /// The guard of the world, if it has one.
+    pub guard: Option<Guard>,
+}
+
+impl Checks {
+    /// The checks of a world without a guard.
+    pub fn of(lost: OnLoss) -> Self
+        ensures { result ≡ record { lost = lost; older = OnLoss.Warn; guard = None } }
+    {
+        Checks {
+            lost,
+            older: OnLoss::Warn,
+            guard: None,
+        }
+    }
+}
+
 /// A finding on four files that no crash leaves after: one of them was lost, emptied or replaced.
 #[derive(Clone, Copy, Debug, PartialEq, Eq)]
 pub enum Lost {
@@ -33,6 +59,8 @@ pub enum Lost {
     /// This log begins after the tick that is recovered. The ticks up to its
     /// beginning were answered.
     Gap(Slot),
+    /// The world is older than its guard.
+    Older(Older),
 }
 
 impl fmt::Display for Lost {
@@ -46,6 +74,7 @@ impl fmt::Display for Lost {
             Lost::Log(Slot::B) => write!(f, "{LOG_B} is empty, so it was lost"),
             Lost::Gap(Slot::A) => write!(f, "{LOG_A} begins after ticks that were lost"),
             Lost::Gap(Slot::B) => write!(f, "{LOG_B} begins after ticks that were lost"),
+            Lost::Older(older) => write!(f, "{}", older),
         }
     }
 }
@@ -76,34 +105,68 @@ impl fmt::Display for Finding {
 }
 
 /// Judges four files with these bytes, of which this tick is recovered from an image of the tick
-/// `from`. It returns the finding to be named, or the loss for which they are refused.
+/// `from`. It returns the finding to be named, or the loss for which they are refused. A world that
+/// is older than its guard is named before a loss.
 pub fn judge(
-    on_loss: OnLoss,
+    checks: Checks,
     tick: u64,
     from: u64,
     files: &FourFiles<Vec<u8>>,
 ) -> Result<Option<Finding>, Lost>
-    ensures judged { result ≡ judgement on_loss tick from files.now.image_a.items
+    ensures judged { result ≡ judgement checks tick from files.now.image_a.items
         files.now.image_b.items files.now.log_a.items files.now.log_b.items }
-    ensures whole { on_loss ≡ OnLoss.Refuse → IfOk result (λ _.
-        lost_of on_loss tick from files.now.image_a.items files.now.image_b.items
+    ensures whole { checks.lost ≡ OnLoss.Refuse → IfOk result (λ _.
+        lost_of checks.lost tick from files.now.image_a.items files.now.image_b.items
         files.now.log_a.items files.now.log_b.items ≡ None) }
-    ensures refused { IfErr result (λ lost. (on_loss ≡ OnLoss.Refuse)
-        × (lost_of on_loss tick from files.now.image_a.items files.now.image_b.items
-        files.now.log_a.items files.now.log_b.items ≡ Some lost)) }
+    ensures newest { checks.older ≡ OnLoss.Refuse → IfOk result (λ _.
+        IfSome checks.guard (λ guard. guard.acked ≤ tick)) }
+    ensures refused { IfErr result (IsRefusing checks) }
 {
-    match (on_loss, lost_of(on_loss, tick, from, files)) {
-        (OnLoss::Warn, None) => Ok(None),
-        (OnLoss::Warn, Some(lost)) => Ok(Some(Finding::Lost(lost))),
-        (OnLoss::Refuse, None) => Ok(doubtful_log(tick, files).map(Finding::Doubtful)),
+    let older = older_of(checks.guard, tick);
+    match (checks.lost, lost_of(checks.lost, tick, from, files)) {
         (OnLoss::Refuse, Some(lost)) => Err(lost),
+        (OnLoss::Refuse, None) => {
+            let doubtful = doubtful_log(tick, files).map(Finding::Doubtful);
+            judge_older(checks.older, older, doubtful)
+        }
+        (OnLoss::Warn, lost) => judge_older(checks.older, older, lost.map(Finding::Lost)),
     }
+}
+
+// Refuses or names a world that is older than its guard. Of another one it names this finding.
+fn judge_older(
+    on_older: OnLoss,
+    older: Option<Lost>,
+    named: Option<Finding>,
+) -> Result<Option<Finding>, Lost>
+    ensures { result ≡ judged_older on_older older named }
+{
+    match (on_older, older) {
+        (_, None) => Ok(named),
+        (OnLoss::Warn, Some(older)) => Ok(Some(Finding::Lost(older))),
+        (OnLoss::Refuse, Some(older)) => Err(older),
+    }
+}
+
+/// The finding on a world of this tick that is older than its guard.
+pub fn older_finding(guard: Option<Guard>, tick: u64) -> Option<Finding>
+    ensures { result ≡ older_finding guard tick }
+{
+    older_of(guard, tick).map(Finding::Lost)
+}
+
+// Says if the world of this tick is older than its guard.
+fn older_of(guard: Option<Guard>, tick: u64) -> Option<Lost>
+    ensures { result ≡ older_of guard tick }
+{
+    guard?.older(tick).map(Lost::Older)
 }
 
 // What was lost of four files with these bytes.
 fn lost_of(on_loss: OnLoss, tick: u64, from: u64, files: &FourFiles<Vec<u8>>) -> Option<Lost>
-    ensures { result ≡ lost_of on_loss tick from files.now.image_a.items files.now.image_b.items
-        files.now.log_a.items files.now.log_b.items }
+    ensures of_file { IfSome result IsOfFile }
+    ensures lost { result ≡ lost_of on_loss tick from files.now.image_a.items
+        files.now.image_b.items files.now.log_a.items files.now.log_b.items }
 {
     if let Some(lost) = empty_image(Slot::A, from, &files.image_a) {
         return Some(lost);
@@ -129,7 +192,8 @@ fn reached(on_loss: OnLoss, tick: u64, from: u64) -> u64
 }
 
 fn empty_image(slot: Slot, from: u64, image: &[u8]) -> Option<Lost>
-    ensures { result ≡ empty_image slot from image.now }
+    ensures of_file { IfSome result IsOfFile }
+    ensures empty { result ≡ empty_image slot from image.now }
 {
     if image.is_empty() && from > 0 {
         Some(Lost::Image(slot))
@@ -139,7 +203,8 @@ fn empty_image(slot: Slot, from: u64, image: &[u8]) -> Option<Lost>
 }
 
 fn lost_log(slot: Slot, tick: u64, reached: u64, log: &[u8]) -> Option<Lost>
-    ensures { result ≡ lost_log slot tick reached log.now }
+    ensures of_file { IfSome result IsOfFile }
+    ensures lost { result ≡ lost_log slot tick reached log.now }
 {
     if log.is_empty() {
         return if reached > 0 {

@@ -1,6 +1,8 @@
 //! A folder in memory. It shows that the promises of a folder's calls can be kept, and tests
 //! run commands on it.
-ghost use Rattle.std.specs.Prelude.{◌≡◌, ◌∷◌, true, None, Option, IsTrue, OnOk, OnErr, IfOk, min};
+ghost use Rattle.std.specs.Prelude.{◌≡◌, ◌∷◌, true, None, Option, IsTrue, OnOk, OnErr, IfOk, IfErr};
+ghost use Rattle.std.specs.Prelude.{min};
+ghost use Rattle.std.specs.IoError.{error_kind};
 ghost use Rattle.disk_model.specs.Disk.{Only, last_count, min-last_count};
 ghost use Rattle.disk_model.specs.CrashOutcome.{IsCrashOutcome, content_stays};
 ghost use Rattle.disk_model.specs.FileState.{Calls};
@@ -13,9 +15,9 @@ use crate::noted::Noted;
 use crate::system_error::error_of;
 use crate::world_file::WorldFile;
 use disk_model::{Disk, FourFiles, ModelFile};
-use std::alloc::Global;
+use std::alloc::{AllocError, Global};
 use std::fmt::Display;
-use std::io;
+use std::io::{self, ErrorKind};
 use world_actions::Refusal;
 
 /// The number of the device on which the files lie.
@@ -112,10 +114,11 @@ impl ModelFolder {
             (acts_of self.new.noted.items ≡ act_of noted ∷ acts_of self.old.noted.items) }
         ensures failed { OnErr result
             (acts_of self.new.noted.items ≡ acts_of self.old.noted.items) }
+        ensures memory { IfErr result (λ error. error_kind error ≡ ErrorKind.OutOfMemory) }
     {
         match self.noted.insert(0, noted) {
             Ok(()) => Ok(()),
-            Err(_) => Err(io::Error::from_raw_os_error(libc::ENOMEM)),
+            Err(_) => Err(io::Error::from(AllocError)),
         }
     }
 
@@ -165,6 +168,7 @@ fn disk_of(alloc: Global, bytes: Vec<u8>, identity: Identity) -> io::Result<Mode
     ensures content { IfOk result (λ disk. disk.file.content ≡ bytes.items) }
     ensures synced { IfOk result (λ disk. Only bytes.items (IsCrashOutcome disk.file)) }
     ensures identity { IfOk result (λ disk. disk.identity ≡ identity) }
+    ensures memory { IfErr result (λ error. error_kind error ≡ ErrorKind.OutOfMemory) }
 {
     match ModelFile::new(alloc, bytes) {
         Ok(file) => Ok(ModelDisk { file, identity }),
@@ -222,8 +226,27 @@ impl Folder for ModelFolder {
         })
     }
 
+    fn remove(&mut self, file: WorldFile) -> io::Result<()> {
+        if !self.is_there(file) {
+            return Err(io::Error::from_raw_os_error(libc::ENOENT));
+        }
+        self.note(Noted::Removed(file))?;
+        match file {
+            WorldFile::ImageA => self.there.image_a = false,
+            WorldFile::ImageB => self.there.image_b = false,
+            WorldFile::LogA => self.there.log_a = false,
+            WorldFile::LogB => self.there.log_b = false,
+        }
+        Ok(())
+    }
+
     fn open_to_read(&mut self, file: WorldFile, _how: Reading) -> io::Result<ModelDisk> {
-        let disk = disk_of(self.alloc, self.copy_of(file)?, entry_of(file).identity)?;
+        if !self.is_there(file) {
+            self.note(Noted::Unopened(file))?;
+            return Err(io::Error::from_raw_os_error(libc::ENOENT));
+        }
+        let bytes = Vec::from_slice(self.alloc, self.bytes_of(file))?;
+        let disk = disk_of(self.alloc, bytes, entry_of(file).identity)?;
         let read = Vec::from_slice(self.alloc, disk.file.now())?;
         self.note(Noted::Read(file, read))?;
         Ok(disk)
@@ -269,6 +292,13 @@ impl Folder for ModelFolder {
         Ok(true)
     }
 
+    // Folders in memory don't lie in one another.
+    fn lies_in(&mut self, path: &str) -> io::Result<bool> {
+        let path = String::from_str(self.alloc, path)?;
+        self.note(Noted::FoundOutside(path))?;
+        Ok(false)
+    }
+
     fn length(&mut self, file: WorldFile) -> io::Result<u64> {
         let length = self.copy_of(file)?.len() as u64;
         self.note(Noted::Measured(file, length))?;
@@ -277,6 +307,11 @@ impl Folder for ModelFolder {
 
     fn lock_state(&mut self, file: WorldFile) -> io::Result<LockState> {
         self.note(Noted::Asked(file, LockState::Free))?;
+        Ok(LockState::Free)
+    }
+
+    fn own_lock_state(&mut self) -> io::Result<LockState> {
+        self.note(Noted::AskedOwn(LockState::Free))?;
         Ok(LockState::Free)
     }
 

@@ -16,16 +16,24 @@ pub enum Noted {
     Locked(Entry),
     /// A file was opened to be read, and has these bytes.
     Read(WorldFile, Vec<u8>),
+    /// A file could not be opened to be read.
+    Unopened(WorldFile),
     /// A file is so long.
     Measured(WorldFile, u64),
     /// A reader asked for the lock of a file.
     Asked(WorldFile, LockState),
+    /// A reader asked for the lock of the folder itself.
+    AskedOwn(LockState),
     /// The names of the files are durable.
     NamesSynced,
     /// The name of the folder is durable.
     OwnNameSynced,
+    /// The file under a name was removed.
+    Removed(WorldFile),
     /// The folder has no file.
     FoundEmpty,
+    /// The folder doesn't lie in the one at this path.
+    FoundOutside(String),
     /// A line was printed on standard output.
     Printed(String),
     /// A line was printed on standard error.

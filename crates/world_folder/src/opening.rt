@@ -5,6 +5,7 @@ ghost use Rattle.world_folder.specs.Ending.{IsFault, ReportsOf, NamesFile, Repor
 ghost use Rattle.world_folder.specs.Completing.{IsOccupied};
 ghost use Rattle.world_folder.specs.Failing.{failure_there, first_failure};
 ghost use Rattle.world_folder.specs.History.{NamesSynced, synced};
+ghost use Rattle.world_folder.specs.Left.{KeepsLeft};
 ghost use Rattle.world_folder.specs.OwnFile.{AreApart, AreHeld, AreOwn, IsOwn};
 
 use crate::ending::Ending;
@@ -43,6 +44,7 @@ impl fmt::Display for Unreadable {
 pub fn sync_names<F: Folder>(alloc: Global, folder: &mut F, path: &str) -> Result<(), Ending>
     ensures synced { IsTrue F.honest
         → OnOk result (F.history folder.new ≡ synced (F.history folder.old)) }
+    ensures left { IsTrue F.honest → KeepsLeft (F.history folder.old) (F.history folder.new) }
     ensures other { IfErr result (λ ending. ¬ IsOccupied ending) }
     ensures fault { IfErr result IsFault }
 {

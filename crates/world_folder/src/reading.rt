@@ -50,7 +50,9 @@ fn read_named<F: Folder>(
     }
 }
 
-fn read_file<F: Folder>(alloc: Global, folder: &mut F, file: WorldFile) -> io::Result<Vec<u8>>
+/// The bytes of a file of a folder that its format reads, or why it can't be read. It is opened for
+/// reading only, and synced before.
+pub fn read_file<F: Folder>(alloc: Global, folder: &mut F, file: WorldFile) -> io::Result<Vec<u8>>
     ensures { IsTrue F.honest → IsTrue F.File.honest
         → IsReadIn file result (F.history folder.old) (F.history folder.new) }
 {

@@ -20,7 +20,7 @@ use std::thread;
 use std::time::{Clock, Duration};
 
 /// The permissions of a new file.
-const OWNER_ALONE: u32 = 0o600;
+pub const OWNER_ALONE: u32 = 0o600;
 
 /// How long a pause is.
 const PAUSE_MILLISECONDS: u64 = 1;
@@ -90,6 +90,10 @@ impl<R: Files<File = File> + Clock + Print + Eprint + AllocGlobal> Folder for Sy
             .open(self.rt, self.path_of(file)?.as_path())
     }
 
+    fn remove(&mut self, file: WorldFile) -> io::Result<()> {
+        fs::remove_file(self.rt, self.path_of(file)?.as_path())
+    }
+
     fn open_to_read(&mut self, file: WorldFile, how: Reading) -> io::Result<FileDisk> {
         let opened = self.open_plain(file)?;
         match how {
@@ -141,6 +145,14 @@ impl<R: Files<File = File> + Clock + Print + Eprint + AllocGlobal> Folder for Sy
         Ok(fs::read_dir(&self.rt, self.path)?.next().is_none())
     }
 
+    fn lies_in(&mut self, path: &str) -> io::Result<bool> {
+        let own = fs::canonicalize(self.rt, self.path)?;
+        match fs::canonicalize(self.rt, path) {
+            Ok(other) => Ok(own.as_str() != other.as_str() && own.starts_with(other.as_str())),
+            Err(_) => Ok(false),
+        }
+    }
+
     fn length(&mut self, file: WorldFile) -> io::Result<u64> {
         Ok(fs::metadata(self.rt, self.path_of(file)?.as_path())?.len())
     }
@@ -148,6 +160,12 @@ impl<R: Files<File = File> + Clock + Print + Eprint + AllocGlobal> Folder for Sy
     fn lock_state(&mut self, file: WorldFile) -> io::Result<LockState> {
         let opened = self.open_plain(file);
         let state = opened.map(|file: _| locks::lock_state(&file));
+        Ok(state.unwrap_or(LockState::Unknown))
+    }
+
+    fn own_lock_state(&mut self) -> io::Result<LockState> {
+        let opened = File::open(self.rt, self.path);
+        let state = opened.map(|folder: _| locks::lock_state(&folder));
         Ok(state.unwrap_or(LockState::Unknown))
     }
 

@@ -38,18 +38,30 @@ pub struct MadeFiles {
 }
 
 impl MadeFiles {
-    ghost use Rattle.std.specs.Prelude.{◌≡◌, false};
+    ghost use Rattle.std.specs.Prelude.{◌≡◌, true};
     ghost use Rattle.world_folder.specs.Completing.{with_made};
+    ghost use Rattle.world_folder.specs.Left.{has_made, none_made, without};
 
     pub fn none() -> Self
-        ensures { result
-            ≡ record { image_a = false; image_b = false; log_a = false; log_b = false } }
+        ensures { result ≡ none_made }
     {
         MadeFiles {
             image_a: false,
             image_b: false,
             log_a: false,
             log_b: false,
+        }
+    }
+
+    /// All of a world.
+    pub fn each() -> Self
+        ensures { result ≡ record { image_a = true; image_b = true; log_a = true; log_b = true } }
+    {
+        MadeFiles {
+            image_a: true,
+            image_b: true,
+            log_a: true,
+            log_b: true,
         }
     }
 
@@ -62,6 +74,30 @@ impl MadeFiles {
             WorldFile::ImageB => self.image_b = true,
             WorldFile::LogA => self.log_a = true,
             WorldFile::LogB => self.log_b = true,
+        }
+    }
+
+    /// Notes that this file was removed again.
+    pub fn forget(&mut self, file: WorldFile)
+        ensures { self.new ≡ without file self.old }
+    {
+        match file {
+            WorldFile::ImageA => self.image_a = false,
+            WorldFile::ImageB => self.image_b = false,
+            WorldFile::LogA => self.log_a = false,
+            WorldFile::LogB => self.log_b = false,
+        }
+    }
+
+    /// True if this file was made.
+    pub fn has(&self, file: WorldFile) -> bool
+        ensures { result ≡ has_made file self.now }
+    {
+        match file {
+            WorldFile::ImageA => self.image_a,
+            WorldFile::ImageB => self.image_b,
+            WorldFile::LogA => self.log_a,
+            WorldFile::LogB => self.log_b,
         }
     }
 }

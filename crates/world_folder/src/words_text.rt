@@ -4,7 +4,8 @@ ghost use Rattle.std.specs.Prelude.{slice_index, take, drop, IsTrue, IfOk, OnOk,
 ghost use Rattle.std.specs.Prelude.{Some};
 ghost use Rattle.world_actions.specs.World.{IsWord, IsWorld};
 ghost use Rattle.world_folder.specs.WordsText.{IsSeparator, HasNoSeparator, EndsPart, newlines};
-ghost use Rattle.world_folder.specs.WordsText.{Lists, IsUnreadAt, HasTooMany};
+ghost use Rattle.world_folder.specs.WordsText.{Lists, EndsLine, IsUnreadAt, HasTooMany};
+ghost use Rattle.world_folder.specs.WordsText.{HasOtherCount};
 ghost use Rattle.world_folder.specs.Texts.{bad_words_text, bad_line_text};
 
 use line_grammar::read_number;
@@ -25,6 +26,10 @@ pub enum BadWords {
     Empty,
     /// It lists more than a world has cells.
     TooMany,
+    /// Its last line has no newline.
+    Cut,
+    /// It lists so many, and another number was asked for.
+    Count(u64),
     /// This line, counted from 1, has something else.
     Line(u64),
 }
@@ -39,7 +44,11 @@ impl BadWords {
     {
         match self {
             BadWords::NoMemory => Refusal::NoMemory,
-            BadWords::Empty | BadWords::TooMany | BadWords::Line(_) => Refusal::BadLine,
+            BadWords::Empty
+            | BadWords::TooMany
+            | BadWords::Cut
+            | BadWords::Count(_)
+            | BadWords::Line(_) => Refusal::BadLine,
         }
     }
 }
@@ -52,6 +61,8 @@ impl fmt::Display for BadWords {
             BadWords::NoMemory => f.write_str("there is no memory for its words"),
             BadWords::Empty => f.write_str("it has no word"),
             BadWords::TooMany => write!(f, "it has more than {CELLS} words"),
+            BadWords::Cut => f.write_str("its last line has no newline, so it may be cut off"),
+            BadWords::Count(count) => write!(f, "--cells isn't the number of its words, {count}"),
             BadWords::Line(line) => write!(f, "{}", BadLine(line)),
         }
     }
@@ -81,19 +92,28 @@ pub struct Listed {
 }
 
 impl Listed {
-    /// Reads the words of a world from a text. Each word is in decimal, with a space or a newline
-    /// after it, which the last one may lack.
-    pub fn read(alloc: Global, text: &[u8]) -> Result<Self, BadWords>
+    /// Reads the words of a world from a text, which has to be of the number of cells that is asked
+    /// for. Each word is in decimal, with a space or a newline after it, the last one with a
+    /// newline.
+    pub fn read(alloc: Global, text: &[u8], asked: Option<u32>) -> Result<Self, BadWords>
         ensures listed { IfOk result (λ listed. Lists listed.words.items text.now) }
         ensures world { IfOk result (λ listed. IsWorld listed.words.items) }
+        ensures count { IfOk result (λ listed. IfSome asked (λ cells.
+            length listed.words.items ≡ cells)) }
+        ensures cut { result ≡ Err BadWords.Cut → ¬ EndsLine text.now }
+        ensures other { (count : ℕ) → result ≡ Err (BadWords.Count count)
+            → HasOtherCount text.now asked count }
         ensures empty { result ≡ Err BadWords.Empty → text.now ≡ [] }
         ensures too_many { result ≡ Err BadWords.TooMany → HasTooMany text.now }
         ensures line { (line : ℕ) → result ≡ Err (BadWords.Line line) → IsUnreadAt line text.now }
     {
         let mut words = Vec::new(alloc);
-        match list_words(text, &mut words) {
-            Ok(()) => Ok(Listed { words }),
-            Err(bad) => Err(bad),
+        list_words(text, &mut words)?;
+        match asked {
+            Some(cells) if words.len() != cells as usize => {
+                Err(BadWords::Count(words.len() as u64))
+            }
+            _ => Ok(Listed { words }),
         }
     }
 
@@ -110,6 +130,8 @@ fn list_words(text: &[u8], words: &mut Vec<u64>) -> Result<(), BadWords>
     requires { words.old.items ≡ [] }
     ensures listed { OnOk result (Lists words.new.items text.now) }
     ensures world { OnOk result (IsWorld words.new.items) }
+    ensures cut { result ≡ Err BadWords.Cut → ¬ EndsLine text.now }
+    ensures other { (count : ℕ) → result ≢ Err (BadWords.Count count) }
     ensures empty { result ≡ Err BadWords.Empty → text.now ≡ [] }
     ensures too_many { result ≡ Err BadWords.TooMany → HasTooMany text.now }
     ensures line { (line : ℕ) → result ≡ Err (BadWords.Line line) → IsUnreadAt line text.now }
@@ -124,11 +146,11 @@ fn list_words(text: &[u8], words: &mut Vec<u64>) -> Result<(), BadWords>
         if words.len() == CELLS as usize {
             return Err(BadWords::TooMany);
         }
+        if end == rest.len() {
+            return Err(BadWords::Cut);
+        }
         if words.push(word).is_err() {
             return Err(BadWords::NoMemory);
-        }
-        if end == rest.len() {
-            return Ok(());
         }
         line += newlines_at(rest, end);
         rest = behind(rest, end);
@@ -136,7 +158,17 @@ fn list_words(text: &[u8], words: &mut Vec<u64>) -> Result<(), BadWords>
     if words.is_empty() {
         return Err(BadWords::Empty);
     }
+    if !ends_line(text) {
+        return Err(BadWords::Cut);
+    }
     Ok(())
+}
+
+// True if the last byte is a newline.
+fn ends_line(text: &[u8]) -> bool
+    ensures { IsTrue result ↔ EndsLine text.now }
+{
+    !text.is_empty() && text[text.len() - 1] == b'\n'
 }
 
 // The place of the first separator, or the end of the text.

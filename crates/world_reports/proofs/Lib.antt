@@ -1,3 +1,4 @@
 pub mod FormatLemmas
 pub mod LookLemmas
 pub mod CopyLemmas
+pub mod LeftLemmas

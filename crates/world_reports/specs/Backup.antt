@@ -5,16 +5,19 @@ use Rattle.disk_model.specs.declared.four_files.FourFiles.{FourFiles}
 use Rattle.file_format.specs.declared.gate.TheConstants.{CLOSED_GATE}
 use Rattle.file_format.specs.declared.slot.Slot.{Slot}
 use Rattle.file_format.specs.declared.slot.Slot.TheVariants.{A, B}
+use Rattle.world_folder.specs.Ending.{ending_of}
+use Rattle.world_folder.specs.declared.ending.Ending.{Ending}
 use Rattle.world_folder.specs.declared.entry.Entry.{Entry}
 use Rattle.world_folder.specs.declared.found.WorldReport.{WorldReport}
 use Rattle.world_folder.specs.declared.world_file.WorldFile.{WorldFile}
 use Rattle.world_folder.specs.declared.world_file.WorldFile.TheVariants.{ImageA, ImageB, LogA, LogB}
 use Rattle.world_folder.specs.Fault.{Files}
-use Rattle.world_folder.specs.declared.lost.OnLoss.{OnLoss}
+use Rattle.world_folder.specs.declared.lost.Checks.{Checks}
 use Rattle.world_reports.specs.Looking.{IsWorldSeen}
-use Rattle.world_reports.specs.Reports.{with_finding}
+use Rattle.world_reports.specs.Reports.{NamesFailed, with_finding}
 use Rattle.world_reports.specs.declared.looking.SeenWorld.{SeenWorld}
-use Rattle.world_folder.specs.History.{Act, Made, FoundEmpty, Printed, Warned, synced}
+use Rattle.world_folder.specs.History.{Act, Made, FoundEmpty, FoundOutside}
+use Rattle.world_folder.specs.History.{Printed, Warned, synced}
 use Rattle.world_reports.specs.Texts.{backed_up_text, begun_text}
 use Rattle.world_reports.specs.Verified.{IsVerified}
 
@@ -67,20 +70,29 @@ module _ {D : Type 0} (content : D → List ℕ) (leaves : D → List ℕ → Ty
     pub images : AreImagesWritten newest files made.image_a made.image_b with_log_b with_images
     pub named : after ≡ synced with_images
 
-  -- A copy of a world was made in an empty folder, and durable. Its files were read again, and hold
-  -- the world that was read. Only then it was printed, and what is found of a loss was named.
-  pub record IsBackedUp (on_loss : OnLoss) (made : FourFiles D)
-      (source_before source_after before after : List Act) : Type 0 where
-    pub world : SeenWorld
+  -- A copy of a world was made, and durable. Its files were read again, and hold the world that was
+  -- read. Only then it was printed; a read that failed at first was named, and what is found of a
+  -- loss. The command ends by what was found.
+  pub record IsCopyMade (world : SeenWorld) (made : FourFiles D) (ending : Ending)
+      (before after : List Act) : Type 0 where
     pub copied : Files
     pub reported : WorldReport
-    pub room : List Act
     pub written : List Act
     pub verified : List Act
-    pub is_seen : IsWorldSeen on_loss world source_before source_after
+    pub named : List Act
     pub without_older : IsWithoutOlder world.found.world.slot world.files copied
-    pub is_room : room ≡ FoundEmpty ∷ before
-    pub are_written : AreWritten world.found.world.slot copied made room written
+    pub are_written : AreWritten world.found.world.slot copied made before written
     pub is_verified : IsVerified world.found.world reported written verified
+    pub failed : NamesFailed world.failed verified named
     pub printed : after ≡ Printed (backed_up_text reported.tick reported.from)
-        ∷ with_tries world.tries (with_finding world.found.finding verified)
+        ∷ with_tries world.tries (with_finding world.found.finding named)
+    pub ends : ending ≡ ending_of world.found.finding
+
+  -- a copy of a world was made in an empty folder outside the world's own
+  pub record IsBackedUp (checks : Checks) (path : List ℕ) (made : FourFiles D) (ending : Ending)
+      (source_before source_after before after : List Act) : Type 0 where
+    pub world : SeenWorld
+    pub room : List Act
+    pub is_seen : IsWorldSeen checks world source_before source_after
+    pub is_room : room ≡ FoundEmpty ∷ FoundOutside path ∷ before
+    pub copy : IsCopyMade world made ending room after

@@ -42,7 +42,7 @@ IsReadWhole bytes length_of_file =
 abbrev pub IsNotCopied : NotCopied → Type 0
 IsNotCopied NoImage = Unit {0}
 IsNotCopied (Unsteady ending) = IsFault ending
-IsNotCopied Unreadable = Unit {0}
+IsNotCopied (Unreadable ending) = IsFault ending
 
 -- all that the file's format reads, or its head
 abbrev pub IsPart : (file : WorldFile) → (whole : Bool) → (content bytes : List ℕ) → Type 0

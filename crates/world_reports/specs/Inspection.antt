@@ -5,12 +5,14 @@ use Rattle.std.specs.List.{flat_map}
 use Rattle.std.specs.declared.alloc.Global.{Global}
 use Rattle.std.specs.declared.io.Error.{Error}
 use Rattle.recovery.specs.declared.recovered.Recovered.{Recovered}
+use Rattle.world_folder.specs.Ending.{ending_of}
 use Rattle.world_folder.specs.Fault.{AreJudged, Files, AreRead, Stands}
+use Rattle.world_folder.specs.declared.ending.Ending.{Ending}
 use Rattle.world_folder.specs.declared.lost.Finding.{Finding}
-use Rattle.world_folder.specs.declared.lost.OnLoss.{OnLoss}
+use Rattle.world_folder.specs.declared.lost.Checks.{Checks}
 use Rattle.world_folder.specs.History.{Act, Printed, IsPrinted}
 use Rattle.world_reports.specs.Looking.{IsSeen, length_or}
-use Rattle.world_reports.specs.Reports.{with_finding}
+use Rattle.world_reports.specs.Reports.{NamesFailed, with_finding}
 use Rattle.world_folder.specs.Texts.{recovered_text}
 use Rattle.world_reports.specs.Texts.{image_reported_text, log_reported_text, counted_text}
 use Rattle.world_reports.specs.FileReports.{IsImageReport, IsLogReport}
@@ -85,9 +87,10 @@ abbrev pub words_printed : (with_words : Bool) → (words : List ℕ) → List A
 words_printed true words acts = Printed (words_text words) ∷ acts
 words_printed false words acts = acts
 
--- The files were seen, and the line on each was printed. They aren't refused for a loss, and what
--- is found of it was named. Then the world was printed that recovery finds in them.
-pub record IsInspected (with_words : Bool) (on_loss : OnLoss)
+-- The files were seen, and the line on each was printed. They aren't refused for a loss. A read
+-- that failed at first was named, and what is found of a loss. Then the world was printed that
+-- recovery finds in them. The command ends by what was found.
+pub record IsInspected (with_words : Bool) (checks : Checks) (ending : Ending)
     (before after : List Act) : Type 0 where
   pub seen : Seen
   pub looked : List Act
@@ -95,10 +98,13 @@ pub record IsInspected (with_words : Bool) (on_loss : OnLoss)
   pub bytes : Files
   pub found : Recovered
   pub finding : Option Finding
+  pub named : List Act
   pub is_seen : IsSeen seen before looked
   pub files : AreFilesReported seen looked reported
   pub are_read : AreRead seen.files bytes
   pub stands : Stands bytes found
-  pub judged : AreJudged on_loss bytes found finding
+  pub judged : AreJudged checks bytes found finding
+  pub failed : NamesFailed seen.failed reported named
   pub printed : after ≡ words_printed with_words found.words.items
-      (Printed (recovered_text found.tick found.from found.slot) ∷ with_finding finding reported)
+      (Printed (recovered_text found.tick found.from found.slot) ∷ with_finding finding named)
+  pub ends : ending ≡ ending_of finding

@@ -3,6 +3,8 @@ pub mod Texts
 pub mod Copying
 pub mod Figures
 pub mod Salvaging
+pub mod Dropped
+pub mod TwoTries
 pub mod Served
 pub mod Backup
 pub mod Looking
@@ -11,5 +13,6 @@ pub mod StatusReport
 pub mod Inspection
 pub mod Verified
 -- inside: for private functions only
+pub mod TakingBack
 pub mod Looks
 pub mod Tried

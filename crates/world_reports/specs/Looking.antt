@@ -5,7 +5,7 @@ use Rattle.world_reports.specs.Copying.{IsCopied}
 use Rattle.world_folder.specs.Fault.{AreJudged, AreRead, Files, Stands}
 use Rattle.world_folder.specs.History.{Act, Measured, AreInTurn}
 use Rattle.world_folder.specs.ReadIn.{AreReadIn}
-use Rattle.world_folder.specs.declared.lost.OnLoss.{OnLoss}
+use Rattle.world_folder.specs.declared.lost.Checks.{Checks}
 use Rattle.world_reports.specs.declared.looking.Seen.{Seen}
 use Rattle.world_reports.specs.declared.looking.SeenWorld.{SeenWorld}
 use Rattle.world_folder.specs.declared.world_file.WorldFile.{WorldFile}
@@ -31,13 +31,14 @@ pub record AreReadAndMeasured (seen : Seen) (before after : List Act) : Type 0 w
   pub files : AreReadIn seen.files before read
   pub lengths : AreMeasured seen.lengths read after
 
--- a copy of both images and the log was seen, with the lengths of the files
+-- a copy of both images and the log was seen, with the lengths of the files, and no read failed
 pub record IsCopySeen (seen : Seen) (before after : List Act) : Type 0 where
   pub copied : Files
   pub lengths : FourFiles ℕ
   pub copy : IsCopied copied lengths before after
   pub are_read : AreRead seen.files copied
   pub are_known : AreKnown lengths seen.lengths
+  pub none_failed : seen.failed ≡ None
 
 -- a copy was seen; or, once none could be taken, each file by itself
 abbrev pub IsSeen : Seen → (before after : List Act) → Type 0
@@ -59,12 +60,13 @@ lengths_known lengths bytes = record {
 }
 
 -- The files were seen, and recovery finds this world in them. They aren't refused for a loss.
-pub record IsWorldSeen (on_loss : OnLoss) (world : SeenWorld)
+pub record IsWorldSeen (checks : Checks) (world : SeenWorld)
     (before after : List Act) : Type 0 where
   pub seen : Seen
   pub is_seen : IsSeen seen before after
   pub are_read : AreRead seen.files world.files
   pub stands : Stands world.files world.found.world
-  pub judged : AreJudged on_loss world.files world.found.world world.found.finding
+  pub judged : AreJudged checks world.files world.found.world world.found.finding
   pub lengths_are : world.lengths ≡ lengths_known seen.lengths world.files
   pub tries_are : world.tries ≡ seen.tries
+  pub failed_is : world.failed ≡ seen.failed

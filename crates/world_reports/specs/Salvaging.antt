@@ -1,10 +1,8 @@
 -- A world that is made of what can be read of damaged files.
-use Rattle.std.specs.Prelude.{◌≡◌, ◌⊎◌, ℕ, List, [], ◌∷◌, ◌++◌, codes, Some, pos, Result, Ok, Err}
-use Rattle.std.specs.Prelude.{Vec}
-use Rattle.std.specs.IoError.{error_kind, raw_os_error}
+use Rattle.std.specs.Prelude.{◌≡◌, ℕ, List, [], ◌∷◌, ◌++◌, codes, Bool, is_err, Result, Ok, Err}
+use Rattle.std.specs.Prelude.{Vec, Option, None, Some, if◌then◌else◌}
 use Rattle.std.specs.declared.alloc.Global.{Global}
 use Rattle.std.specs.declared.io.Error.{Error}
-use Rattle.std.specs.declared.io.ErrorKind.TheVariants.{NotFound}
 use Rattle.disk_model.specs.declared.four_files.FourFiles.{FourFiles}
 use Rattle.disk_model.specs.FourFiles.{EachFile}
 use Rattle.file_format.specs.declared.slot.Slot.TheVariants.{A}
@@ -15,17 +13,48 @@ use Rattle.salvage.specs.Salvage.{IsSalvaged}
 use Rattle.salvage.specs.declared.salvaged.Salvaged.{Salvaged}
 use Rattle.world_reports.specs.Backup.{AreWritten}
 use Rattle.world_folder.specs.Fault.{Files}
-use Rattle.world_folder.specs.History.{Act, FoundEmpty, Printed}
-use Rattle.world_folder.specs.ReadIn.{AreReadIn}
+use Rattle.world_folder.specs.History.{Act, FoundEmpty, FoundOutside, Printed, AreInTurn}
+use Rattle.world_folder.specs.Lost.{older_finding}
+use Rattle.world_folder.specs.declared.ending.Ending.{Ending}
+use Rattle.world_folder.specs.declared.ending.Ending.TheVariants.{MayBeOlder}
+use Rattle.world_folder.specs.declared.guard.Guard.{Guard}
+use Rattle.world_folder.specs.declared.lost.Finding.{Finding}
+use Rattle.world_reports.specs.Dropped.{dropped_of, dropped_text, ending_of}
+use Rattle.world_reports.specs.Reports.{NamesFailed, with_finding}
+use Rattle.world_reports.specs.TwoTries.{AreTried, IsLost}
+use Rattle.world_reports.specs.declared.dropped.Dropped.{Dropped as DroppedFiles}
+use Rattle.world_reports.specs.declared.two_tries.TwoTries.{TwoTries}
 use Rattle.world_reports.specs.Texts.{image_part_text, log_part_text, salvaged_text}
 use Rattle.world_reports.specs.Verified.{IsVerified}
 use Rattle.world_folder.specs.declared.found.WorldReport.{WorldReport}
-use Rattle.world_folder.specs.declared.world_file.Named.{Named}
 use Rattle.world_folder.specs.declared.world_file.TheConstants.{IMAGE_A, IMAGE_B, LOG_A, LOG_B}
+use Rattle.world_folder.specs.declared.world_file.WorldFile.{WorldFile}
 
--- the file isn't there, or its device can't read it: the error is of the number EIO
-abbrev pub IsLost : Error → Type 0
-IsLost error = (error_kind error ≡ NotFound) ⊎ (raw_os_error error ≡ Some (pos 5))
+-- which files can't be read
+abbrev pub lost_of : FourFiles TwoTries → FourFiles Bool
+lost_of read = record {
+  image_a = is_err read.image_a.value;
+  image_b = is_err read.image_b.value;
+  log_a = is_err read.log_a.value;
+  log_b = is_err read.log_b.value;
+}
+
+-- the error of a first try, if the second one succeeded
+abbrev pub failed_once : TwoTries → Option Error
+failed_once tries = if is_err tries.value then None else tries.failed
+
+abbrev pub failed_of : FourFiles TwoTries → FourFiles (Option Error)
+failed_of read = record {
+  image_a = failed_once read.image_a;
+  image_b = failed_once read.image_b;
+  log_a = failed_once read.log_a;
+  log_b = failed_once read.log_b;
+}
+
+-- each such file was named on standard error, image.a first
+abbrev pub AreFailedNamed : FourFiles (Option Error) → (before after : List Act) → Type 0
+AreFailedNamed failed before after =
+    AreInTurn (λ (file : WorldFile) (error : Option Error). NamesFailed error) failed before after
 
 -- the bytes that are taken of a file: those that were read, and none of a lost one
 abbrev pub AreBytesOf : Result (Vec ℕ Global) Error → Vec ℕ Global → Type 0
@@ -38,12 +67,12 @@ NamesLost (Ok read) before after = after ≡ before
 NamesLost (Err error) before after = (text : List ℕ) × (after ≡ Printed text ∷ before)
 
 -- the bytes of four files were taken, image.a first, and a line was printed for each lost one
-pub record AreTakenOf (read : FourFiles (Named (Result (Vec ℕ Global) Error))) (files : Files)
+pub record AreTakenOf (read : FourFiles TwoTries) (files : Files)
     (before after : List Act) : Type 0 where
   pub with_image_a : List Act
   pub with_image_b : List Act
   pub with_log_a : List Act
-  pub bytes : EachFile read files (λ named bytes. AreBytesOf named.value bytes)
+  pub bytes : EachFile read files (λ tries bytes. AreBytesOf tries.value bytes)
   pub image_a : NamesLost read.image_a.value before with_image_a
   pub image_b : NamesLost read.image_b.value with_image_a with_image_b
   pub log_a : NamesLost read.log_a.value with_image_b with_log_a
@@ -66,24 +95,45 @@ pub record IsSalvagedOf (files : Files) (salvaged : Salvaged) : Type 0 where
       (kept_log salvaged.log_a files.log_a.items) (kept_log salvaged.log_b files.log_b.items)
       (Ok (recovery_of_answer salvaged.found))
 
--- The files of a folder were read, each by its own name. A world was made of them in an empty
--- folder, durable, its image last. Its files were read again, and recovery finds in them the world
--- that was salvaged. Only then it was printed.
-pub record IsSalvagedInto {D : Type 0} (content : D → List ℕ) (leaves : D → List ℕ → Type 0)
-    (made : FourFiles D) (source_before source_after before after : List Act) : Type 0 where
-  pub read : FourFiles (Named (Result (Vec ℕ Global) Error))
+-- how a command ends that dropped this of a world that is older than its guard, or isn't
+abbrev pub ending_after : Option Finding → DroppedFiles → Ending
+ending_after None dropped = ending_of dropped
+ending_after (Some older) dropped = MayBeOlder
+
+-- A world was made of what could be read of four files, durable, its image last. Its files were
+-- read again, and recovery finds in them the world that was salvaged. Only then the files were
+-- named that a second try could read, and a world that is older than its guard. Then it was
+-- printed, and of which files something was dropped. The command ends by both.
+pub record IsMadeOf {D : Type 0} (content : D → List ℕ) (leaves : D → List ℕ → Type 0)
+    (guard : Option Guard) (read : FourFiles TwoTries) (made : FourFiles D) (ending : Ending)
+    (before after : List Act) : Type 0 where
   pub files : Files
   pub salvaged : Salvaged
   pub bytes : Files
   pub reported : WorldReport
-  pub room : List Act
   pub taken : List Act
   pub written : List Act
   pub verified : List Act
-  pub read_in : AreReadIn read source_before source_after
-  pub are_taken : AreTakenOf read files room taken
+  pub dropped : DroppedFiles
+  pub named : List Act
+  pub are_taken : AreTakenOf read files before taken
   pub is_salvaged : IsSalvagedOf files salvaged
-  pub is_room : room ≡ FoundEmpty ∷ before
   pub are_written : AreWritten content leaves A bytes made (parts_printed salvaged taken) written
   pub is_verified : IsVerified salvaged.found reported written verified
-  pub printed : after ≡ Printed (salvaged_text reported.tick reported.from) ∷ verified
+  pub failed : AreFailedNamed (failed_of read) verified named
+  pub dropped_is : dropped ≡ dropped_of (lost_of read) files salvaged
+  pub printed : after ≡ Printed (dropped_text dropped)
+      ∷ Printed (salvaged_text reported.tick reported.from)
+      ∷ with_finding (older_finding guard salvaged.found.tick) named
+  pub ends : ending ≡ ending_after (older_finding guard salvaged.found.tick) dropped
+
+-- The files of a folder were read, each by its own name. A world was made of them in an empty
+-- folder outside the world's own.
+pub record IsSalvagedInto {D : Type 0} (content : D → List ℕ) (leaves : D → List ℕ → Type 0)
+    (path : List ℕ) (guard : Option Guard) (made : FourFiles D) (ending : Ending)
+    (source_before source_after before after : List Act) : Type 0 where
+  pub read : FourFiles TwoTries
+  pub room : List Act
+  pub read_in : AreTried read source_before source_after
+  pub is_room : room ≡ FoundEmpty ∷ FoundOutside path ∷ before
+  pub is_made : IsMadeOf content leaves guard read made ending room after

@@ -13,6 +13,7 @@ use Rattle.world_reports.specs.declared.served.PartReport.{PartReport}
 use Rattle.world_reports.specs.declared.served.PartReport.TheVariants as part
 use Rattle.world_reports.specs.declared.served.ServerReport.{ServerReport}
 use Rattle.world_reports.specs.declared.served.ServerReport.TheVariants as server
+use Rattle.world_folder.specs.declared.guard.Guard.{Guard}
 use Rattle.world_folder.specs.declared.world_file.TheConstants.{IMAGE_A, IMAGE_B, LOG_A, LOG_B}
 use Rattle.world_reports.specs.FileReports.{format_number}
 use Rattle.salvage.specs.declared.image_part.ImagePart.{ImagePart}
@@ -34,6 +35,13 @@ backed_up_text tick from = codes "backed up " ++ world_text tick from
 
 abbrev pub begun_text : (tries : ℕ) → List ℕ
 begun_text tries = codes "worldd: it was begun " ++ decimal tries ++ codes " times"
+
+-- the guard of a world
+abbrev pub guard_text : Guard → List ℕ
+guard_text guard =
+    codes "guard: tick " ++ decimal guard.acked ++ codes " at @" ++ decimal guard.seconds
+    ++ codes ", image of tick " ++ decimal guard.image ++ codes ", start " ++ decimal guard.starts
+    ++ codes " of world " ++ decimal guard.world
 
 -- a world that was salvaged
 abbrev pub salvaged_text : (tick from : ℕ) → List ℕ
@@ -95,6 +103,7 @@ part_text part.Unknown = codes "unknown"
 abbrev pub server_text : ServerReport → List ℕ
 server_text (server.Running log images) =
     codes "server: running, log " ++ part_text log ++ codes ", images " ++ part_text images
+server_text server.Replaced = codes "server: running, on files that were removed or replaced"
 server_text server.Missing = codes "server: none"
 server_text server.Unknown = codes "server: unknown"
 

@@ -1,13 +1,16 @@
 ghost use Rattle.std.specs.Prelude.{◌≡◌, ◌∷◌, [], Some, IsTrue, IfOk, IfErr, OnOk};
 ghost use Rattle.disk_model.specs.Disk.{Only};
-ghost use Rattle.world_reports.specs.Backup.{IsBackedUp, AreWritten, AreImagesWritten, IsWritten};
-ghost use Rattle.world_reports.specs.Backup.{IsWithoutOlder, shut_older, with_tries};
-ghost use Rattle.world_folder.specs.Ending.{IsFault, NamesFile};
-ghost use Rattle.world_folder.specs.History.{FoundEmpty};
+ghost use Rattle.world_folder.specs.Left.{Leaves};
+ghost use Rattle.world_reports.specs.Backup.{IsBackedUp, IsCopyMade, IsWritten, AreWritten};
+ghost use Rattle.world_reports.specs.Backup.{AreImagesWritten, IsWithoutOlder, shut_older};
+ghost use Rattle.world_reports.specs.Backup.{with_tries};
+ghost use Rattle.world_folder.specs.Ending.{IsDone, IsFault, NamesFile};
+ghost use Rattle.world_folder.specs.History.{FoundEmpty, FoundOutside};
 ghost use Rattle.world_reports.specs.Texts.{begun_text};
 
 use crate::looking::{SeenWorld, look_for_world};
-use crate::recovering::warn_of;
+use crate::recovering::{warn_of, warn_of_failed};
+use crate::taking_back::taken_back;
 use crate::verified::{BackedUp, verify};
 use disk_model::{Disk, FourFiles};
 use file_format::CLOSED_GATE;
@@ -18,8 +21,8 @@ use std::time::Clock;
 use std::{fmt, io};
 use world_actions::Refusal;
 use world_folder::{
-    Ending, Filled, Folder, OnLoss, Reading, SystemFolder, WorldFile, answered, opened, path_of,
-    sync_names,
+    Checks, Ending, Filled, Folder, GUARD, Guard, Inside, MadeFiles, OnLoss, Reading, SystemFolder,
+    WorldFile, answered, checks_in, opened, path_of, put_guard, remove_guard, sync_names,
 };
 
 /// Copies the world of a folder of the system into an empty one, as `copy_into` does.
@@ -28,48 +31,99 @@ pub fn back_up<R: Files<File = File> + Clock + Print + Eprint + AllocGlobal>(
     folder: &str,
     to: &str,
     on_loss: OnLoss,
-) -> Result<(), Ending>
-    ensures { IfErr result IsFault }
+) -> Result<Ending, Ending>
+    ensures done { IfOk result IsDone }
+    ensures fault { IfErr result IsFault }
 {
+    let checks = checks_in(rt, folder, on_loss)?;
     let mut from = SystemFolder::new(rt, folder);
     let mut into = SystemFolder::new(rt, to);
-    copy_into(rt.alloc(), &mut from, folder, &mut into, to, on_loss)?;
-    Ok(())
+    let (_, ending) = copy_into(rt.alloc(), &mut from, folder, &mut into, to, checks)?;
+    copy_guard(rt, &mut into, to, checks.guard)?;
+    Ok(ending)
+}
+
+// Gives a copy the guard of its world, as it was before the copy was begun: the copy has all ticks
+// up to the guard's, or is older too. If that fails, the files of the copy are removed, or named.
+fn copy_guard<R: Files<File = File> + AllocGlobal, T: Folder>(
+    rt: &R,
+    into: &mut T,
+    to: &str,
+    guard: Option<Guard>,
+) -> Result<(), Ending>
+    ensures fault { IfErr result IsFault }
+{
+    let Some(guard) = guard else {
+        return Ok(());
+    };
+    let put = put_guard(rt, to, &guard);
+    match opened(rt.alloc(), to, GUARD, put) {
+        Ok(()) => Ok(()),
+        Err(ending) => {
+            remove_guard(rt, to);
+            Err(taken_back(rt.alloc(), into, to, MadeFiles::each(), ending))
+        }
+    }
 }
 
 /// Copies the world of a folder into an empty one, and prints which world the copy holds. A server
 /// may write the world meanwhile. The copy's image is written last, so a copy that was cut off
 /// holds no world; the older one is closed in it. The copy has to recover to the world that was
-/// read. On standard error it names what was lost of the source. The copy's files are returned.
+/// read. If it fails, the files that it made are removed, or named. On standard error it names what
+/// was lost of the source. The copy's files are returned, and how the command ends.
 pub fn copy_into<F: Folder, T: Folder>(
     alloc: Global,
     from: &mut F,
     path: &str,
     into: &mut T,
     to: &str,
-    on_loss: OnLoss,
-) -> Result<FourFiles<T::File>, Ending>
+    checks: Checks,
+) -> Result<(FourFiles<T::File>, Ending), Ending>
     ensures backed_up { IsTrue F.honest → IsTrue F.File.honest → IsTrue T.honest
-        → IsTrue T.File.honest → IfOk result (λ files.
-        IsBackedUp T.File.content T.File.may_leave on_loss files (F.history from.old)
-        (F.history from.new) (T.history into.old) (T.history into.new)) }
+        → IsTrue T.File.honest → IfOk result (λ done.
+        IsBackedUp T.File.content T.File.may_leave checks path.now done.0 done.1
+        (F.history from.old) (F.history from.new) (T.history into.old) (T.history into.new)) }
+    ensures done { IfOk result (λ done. IsDone done.1) }
     ensures fault { IfErr result IsFault }
 {
-    look_for_room(alloc, into, to)?;
-    let seen = look_for_world(alloc, from, path, Reading::Cached, on_loss)?;
+    look_for_room(alloc, path, into, to)?;
+    let seen = look_for_world(alloc, from, path, Reading::Cached, checks)?;
+    let mut made = MadeFiles::none();
+    match copy_seen(alloc, into, to, seen, &mut made) {
+        Ok(done) => Ok(done),
+        Err(ending) => Err(taken_back(alloc, into, to, made, ending)),
+    }
+}
+
+// Makes a copy of a world that was seen, and reports it.
+fn copy_seen<T: Folder>(
+    alloc: Global,
+    into: &mut T,
+    to: &str,
+    seen: SeenWorld,
+    made: &mut MadeFiles,
+) -> Result<(FourFiles<T::File>, Ending), Ending>
+    ensures copied { IsTrue T.honest → IsTrue T.File.honest → IfOk result (λ done.
+        IsCopyMade T.File.content T.File.may_leave seen done.0 done.1 (T.history into.old)
+        (T.history into.new)) }
+    ensures done { IfOk result (λ done. IsDone done.1) }
+    ensures fault { IfErr result IsFault }
+{
     let SeenWorld {
         files,
         lengths: _,
         tries,
+        failed,
         found,
     } = seen;
     let copied = without_older(files, found.world.slot);
-    let made = write_files(alloc, into, to, &copied, found.world.slot)?;
+    let files = write_files(alloc, into, to, &copied, found.world.slot, made)?;
     let verified = verify(alloc, into, to, &found.world)?;
+    warn_of_failed(into, failed)?;
     warn_of(into, found.finding)?;
     warn_of_tries(into, tries)?;
     into.print(BackedUp(verified))?;
-    Ok(made)
+    Ok((files, Ending::of_finding(found.finding)))
 }
 
 // The files with the older image closed. An empty file stays one.
@@ -105,12 +159,21 @@ fn warn_of_tries<F: Folder>(into: &mut F, tries: u32) -> io::Result<()>
     Ok(())
 }
 
-/// Refuses a folder that has a file.
-pub fn look_for_room<F: Folder>(alloc: Global, into: &mut F, to: &str) -> Result<(), Ending>
-    ensures empty { IsTrue F.honest
-        → OnOk result (F.history into.new ≡ FoundEmpty ∷ F.history into.old) }
+/// Refuses a folder that lies in the world's own at this path, or that has a file.
+pub fn look_for_room<F: Folder>(
+    alloc: Global,
+    path: &str,
+    into: &mut F,
+    to: &str,
+) -> Result<(), Ending>
+    ensures room { IsTrue F.honest → OnOk result
+        (F.history into.new ≡ FoundEmpty ∷ FoundOutside path.now ∷ F.history into.old) }
     ensures fault { IfErr result IsFault }
 {
+    let lies_in = into.lies_in(path);
+    if opened(alloc, "", to, lies_in)? {
+        return Err(inside(alloc, to));
+    }
     let is_empty = into.is_empty();
     if opened(alloc, "", to, is_empty)? {
         Ok(())
@@ -128,6 +191,15 @@ fn filled(alloc: Global, to: &str) -> Ending
     }
 }
 
+fn inside(alloc: Global, to: &str) -> Ending
+    ensures { IsFault result }
+{
+    match path_of(alloc, "", to) {
+        Ok(path) => Ending::Inside(Inside { path }),
+        Err(_) => Ending::Fault(Refusal::NoMemory),
+    }
+}
+
 /// Makes the files of a world, that of the newest image last, and syncs each of them
 /// and their names.
 pub fn write_files<F: Folder>(
@@ -136,15 +208,18 @@ pub fn write_files<F: Folder>(
     to: &str,
     files: &FourFiles<Vec<u8>>,
     newest: Slot,
+    made: &mut MadeFiles,
 ) -> Result<FourFiles<F::File>, Ending>
-    ensures written { IsTrue F.honest → IsTrue F.File.honest → IfOk result (λ made.
-        AreWritten F.File.content F.File.may_leave newest files.now made
+    ensures written { IsTrue F.honest → IsTrue F.File.honest → IfOk result (λ written.
+        AreWritten F.File.content F.File.may_leave newest files.now written
         (F.history into.old) (F.history into.new)) }
+    ensures left { IsTrue F.honest
+        → Leaves made.old (F.history into.old) → Leaves made.new (F.history into.new) }
     ensures fault { IfErr result IsFault }
 {
-    let log_a = write_one(alloc, into, to, WorldFile::LogA, &files.log_a)?;
-    let log_b = write_one(alloc, into, to, WorldFile::LogB, &files.log_b)?;
-    let (image_a, image_b) = write_images(alloc, into, to, files, newest)?;
+    let log_a = write_one(alloc, into, to, WorldFile::LogA, &files.log_a, made)?;
+    let log_b = write_one(alloc, into, to, WorldFile::LogB, &files.log_b, made)?;
+    let (image_a, image_b) = write_images(alloc, into, to, files, newest, made)?;
     sync_names(alloc, into, to)?;
     Ok(FourFiles {
         image_a,
@@ -161,51 +236,66 @@ fn write_images<F: Folder>(
     to: &str,
     files: &FourFiles<Vec<u8>>,
     newest: Slot,
+    made: &mut MadeFiles,
 ) -> Result<(F::File, F::File), Ending>
     ensures written { IsTrue F.honest → IsTrue F.File.honest → IfOk result (λ made.
         AreImagesWritten F.File.content F.File.may_leave newest files.now made.0 made.1
         (F.history into.old) (F.history into.new)) }
+    ensures left { IsTrue F.honest
+        → Leaves made.old (F.history into.old) → Leaves made.new (F.history into.new) }
     ensures fault { IfErr result IsFault }
 {
     match newest {
         Slot::A => {
-            let image_b = write_one(alloc, into, to, WorldFile::ImageB, &files.image_b)?;
-            let image_a = write_one(alloc, into, to, WorldFile::ImageA, &files.image_a)?;
+            let image_b = write_one(alloc, into, to, WorldFile::ImageB, &files.image_b, made)?;
+            let image_a = write_one(alloc, into, to, WorldFile::ImageA, &files.image_a, made)?;
             Ok((image_a, image_b))
         }
         Slot::B => {
-            let image_a = write_one(alloc, into, to, WorldFile::ImageA, &files.image_a)?;
-            let image_b = write_one(alloc, into, to, WorldFile::ImageB, &files.image_b)?;
+            let image_a = write_one(alloc, into, to, WorldFile::ImageA, &files.image_a, made)?;
+            let image_b = write_one(alloc, into, to, WorldFile::ImageB, &files.image_b, made)?;
             Ok((image_a, image_b))
         }
     }
 }
 
-/// Makes a file of a folder with these bytes, and makes them durable.
+/// Makes a file of a folder with these bytes, and makes them durable. It notes that the file was
+/// made, also if it fails afterwards.
 pub fn write_one<F: Folder>(
     alloc: Global,
     into: &mut F,
     to: &str,
     file: WorldFile,
     bytes: &[u8],
+    made: &mut MadeFiles,
 ) -> Result<F::File, Ending>
     ensures written { IsTrue F.honest → IsTrue F.File.honest → IfOk result (λ disk.
         IsWritten F.File.content F.File.may_leave file bytes.now disk
         (F.history into.old) (F.history into.new)) }
+    ensures left { IsTrue F.honest
+        → Leaves made.old (F.history into.old) → Leaves made.new (F.history into.new) }
     ensures named { IfErr result (NamesFile to.now file) }
     ensures fault { IfErr result IsFault }
 {
-    let written = write_file(into, file, bytes);
+    let written = write_file(into, file, bytes, made);
     opened(alloc, to, file.name(), written)
 }
 
 // Makes a file with these bytes, and makes them durable.
-fn write_file<F: Folder>(into: &mut F, file: WorldFile, bytes: &[u8]) -> io::Result<F::File>
-    ensures { IsTrue F.honest → IsTrue F.File.honest → IfOk result (λ disk.
+fn write_file<F: Folder>(
+    into: &mut F,
+    file: WorldFile,
+    bytes: &[u8],
+    made: &mut MadeFiles,
+) -> io::Result<F::File>
+    ensures written { IsTrue F.honest → IsTrue F.File.honest → IfOk result (λ disk.
         IsWritten F.File.content F.File.may_leave file bytes.now disk
         (F.history into.old) (F.history into.new)) }
+    ensures left { IsTrue F.honest
+        → Leaves made.old (F.history into.old) → Leaves made.new (F.history into.new) }
 {
     let handle = into.make(file)?;
+    made.note(file);
     let mut disk = into.take(handle)?;
     let written = write_bytes(&mut disk, bytes);
     answered(&mut disk, written)?;

@@ -38,8 +38,8 @@ pub enum NotCopied {
     NoImage,
     /// A new image or a new segment was begun under each try.
     Unsteady(Ending),
-    /// A file can't be read.
-    Unreadable,
+    /// A file can't be read, or there is no memory.
+    Unreadable(Ending),
 }
 
 /// The files of a world at a path, open to be read.
@@ -63,7 +63,7 @@ pub fn copy_world<F: Folder>(
 {
     match open_source(alloc, folder, path, how) {
         Ok(mut source) => copy_from(alloc, folder, &mut source),
-        Err(_) => Err(NotCopied::Unreadable),
+        Err(ending) => Err(NotCopied::Unreadable(ending)),
     }
 }
 
@@ -91,7 +91,7 @@ fn copy_from<F: Folder>(
             }
             Ok(Tried::NoImage) => blanks += 1,
             Ok(Tried::Unsteady) => {}
-            Err(_) => return Err(NotCopied::Unreadable),
+            Err(ending) => return Err(NotCopied::Unreadable(ending)),
         }
         if blanks == BLANKS {
             return Err(NotCopied::NoImage);

@@ -1,17 +1,17 @@
 //! Figures of a world, by what its files hold.
-ghost use Rattle.std.specs.Prelude.{◌≡◌, IsTrue, IfErr, OnOk, Some};
-ghost use Rattle.world_folder.specs.Ending.{IsFault};
+ghost use Rattle.std.specs.Prelude.{◌≡◌, IsTrue, IfOk, IfErr, OnOk, Some};
+ghost use Rattle.world_folder.specs.Ending.{IsDone, IsFault};
 ghost use Rattle.world_reports.specs.StatusReport.{IsStatusReported, IsServerReported};
-ghost use Rattle.world_reports.specs.StatusReport.{AreFiguresReported};
+ghost use Rattle.world_reports.specs.StatusReport.{AreFiguresReported, with_guard};
 ghost use Rattle.world_reports.specs.FileReports.{IsLogReport};
 ghost use Rattle.world_reports.specs.Figures.{AreFigures, current_segment, reported_segment};
 ghost use Rattle.world_reports.specs.Texts.{figures_text, lengths_text, pair_text, segment_text};
-ghost use Rattle.world_reports.specs.Texts.{total_of};
+ghost use Rattle.world_reports.specs.Texts.{guard_text, total_of};
 
 use crate::counted::Counted;
 use crate::file_reports::{LogReport, report_log};
 use crate::looking::look_for_world;
-use crate::recovering::warn_of;
+use crate::recovering::{warn_of, warn_of_failed};
 use crate::served::server_in;
 use action_log::SEGMENT_TICKS;
 use disk_model::FourFiles;
@@ -22,8 +22,8 @@ use std::fs::{File, Files};
 use std::time::Clock;
 use world_actions::Refusal;
 use world_folder::{
-    Ending, Folder, FoundReport, IMAGE_A, IMAGE_B, LOG_A, LOG_B, OnLoss, Reading, SystemFolder,
-    WorldReport,
+    Checks, Ending, Folder, FoundReport, Guard, IMAGE_A, IMAGE_B, LOG_A, LOG_B, OnLoss, Reading,
+    SystemFolder, WorldReport, checks_in,
 };
 
 /// Figures of a world.
@@ -79,31 +79,35 @@ pub fn status<R: Files<File = File> + Clock + Print + Eprint + AllocGlobal>(
     rt: &R,
     folder: &str,
     on_loss: OnLoss,
-) -> Result<(), Ending>
-    ensures { IfErr result IsFault }
+) -> Result<Ending, Ending>
+    ensures done { IfOk result IsDone }
+    ensures fault { IfErr result IsFault }
 {
-    report_status(
-        rt.alloc(),
-        &mut SystemFolder::new(rt, folder),
-        folder,
-        on_loss,
-    )
+    let mut system = SystemFolder::new(rt, folder);
+    match checks_in(rt, folder, on_loss) {
+        Ok(checks) => report_status(rt.alloc(), &mut system, folder, checks),
+        Err(ending) => {
+            print_server(&mut system)?;
+            Err(ending)
+        }
+    }
 }
 
 /// Prints the figures of the world in the folder at this path, which a server may write meanwhile,
 /// and then whether one does. On standard error it names what was lost. If the files hold no world,
-/// only the last line is printed.
+/// only the last line is printed. It returns how the command ends.
 pub fn report_status<F: Folder>(
     alloc: Global,
     folder: &mut F,
     path: &str,
-    on_loss: OnLoss,
-) -> Result<(), Ending>
-    ensures reported { IsTrue F.honest → IsTrue F.File.honest
-        → OnOk result (IsStatusReported on_loss (F.history folder.old) (F.history folder.new)) }
+    checks: Checks,
+) -> Result<Ending, Ending>
+    ensures reported { IsTrue F.honest → IsTrue F.File.honest → IfOk result (λ ending.
+        IsStatusReported checks ending (F.history folder.old) (F.history folder.new)) }
+    ensures done { IfOk result IsDone }
     ensures fault { IfErr result IsFault }
 {
-    let printed = print_figures(alloc, folder, path, on_loss);
+    let printed = print_figures(alloc, folder, path, checks);
     print_server(folder)?;
     printed
 }
@@ -122,17 +126,55 @@ fn print_figures<F: Folder>(
     alloc: Global,
     folder: &mut F,
     path: &str,
-    on_loss: OnLoss,
-) -> Result<(), Ending>
-    ensures reported { IsTrue F.honest → IsTrue F.File.honest
-        → OnOk result (AreFiguresReported on_loss (F.history folder.old) (F.history folder.new)) }
+    checks: Checks,
+) -> Result<Ending, Ending>
+    ensures reported { IsTrue F.honest → IsTrue F.File.honest → IfOk result (λ ending.
+        AreFiguresReported checks ending (F.history folder.old) (F.history folder.new)) }
+    ensures done { IfOk result IsDone }
     ensures fault { IfErr result IsFault }
 {
-    let seen = look_for_world(alloc, folder, path, Reading::Cached, on_loss)?;
+    let seen = look_for_world(alloc, folder, path, Reading::Cached, checks)?;
+    warn_of_failed(folder, seen.failed)?;
     warn_of(folder, seen.found.finding)?;
     folder.print(figures_of(&seen.found.world, &seen.files))?;
     folder.print(Lengths(seen.lengths))?;
+    print_guard(folder, checks.guard)?;
+    Ok(Ending::of_finding(seen.found.finding))
+}
+
+// Prints the guard of the world, if it has one.
+fn print_guard<F: Folder>(folder: &mut F, guard: Option<Guard>) -> Result<(), Ending>
+    ensures printed { IsTrue F.honest
+        → OnOk result (F.history folder.new ≡ with_guard guard (F.history folder.old)) }
+    ensures fault { IfErr result IsFault }
+{
+    if let Some(guard) = guard {
+        folder.print(GuardLine(guard))?;
+    }
     Ok(())
+}
+
+// The line on a guard.
+#[derive(Clone, Copy)]
+struct GuardLine(Guard);
+
+impl fmt::Display for GuardLine {
+    ghost output = { λ line. Some (guard_text line.0) };
+
+    fn fmt<W: fmt::Write>(&self, f: &mut fmt::Formatter<W>) -> fmt::Result {
+        let Guard {
+            world,
+            starts,
+            acked,
+            image,
+            seconds,
+        } = self.0;
+        write!(
+            f,
+            "guard: tick {acked} at @{seconds}, image of tick {image}"
+        )?;
+        write!(f, ", start {starts} of world {world}")
+    }
 }
 
 impl fmt::Display for Figures {

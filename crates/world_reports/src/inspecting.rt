@@ -1,12 +1,12 @@
 ghost use Rattle.std.specs.Prelude.{◌≡◌, Some, IsTrue, IfOk, IfErr, OnOk, string_bytes};
-ghost use Rattle.world_folder.specs.Ending.{IsFault};
+ghost use Rattle.world_folder.specs.Ending.{IsDone, IsFault};
 ghost use Rattle.world_reports.specs.Inspection.{IsFileLine, IsFileReport, IsInspected, words_text};
 ghost use Rattle.world_reports.specs.Inspection.{AreFilesReported, file_line_text, words_printed};
 
 use crate::counted::Counted;
 use crate::file_reports::{ImageReport, LogReport, report_image, report_log};
 use crate::looking::{Seen, found_in, look_at_folder};
-use crate::recovering::warn_of;
+use crate::recovering::{warn_of, warn_of_failed};
 use disk_model::FourFiles;
 use recovery::Recovered;
 use std::alloc::{AllocError, Global};
@@ -14,7 +14,9 @@ use std::fs::{File, Files};
 use std::time::Clock;
 use std::{fmt, io};
 use world_actions::Refusal;
-use world_folder::{Ending, Folder, FoundReport, Named, OnLoss, Reading, SystemFolder, WorldFile};
+use world_folder::{
+    Checks, Ending, Folder, FoundReport, Named, OnLoss, Reading, SystemFolder, WorldFile, checks_in,
+};
 
 /// Prints how each file of a folder of the system reads, and which world they hold, as
 /// `report_files` does.
@@ -23,34 +25,38 @@ pub fn inspect<R: Files<File = File> + Clock + Print + Eprint + AllocGlobal>(
     folder: &str,
     with_words: bool,
     on_loss: OnLoss,
-) -> Result<(), Ending>
-    ensures { IfErr result IsFault }
+) -> Result<Ending, Ending>
+    ensures done { IfOk result IsDone }
+    ensures fault { IfErr result IsFault }
 {
+    let checks = checks_in(rt, folder, on_loss)?;
     let mut system = SystemFolder::new(rt, folder);
-    report_files(rt.alloc(), &mut system, folder, with_words, on_loss)
+    report_files(rt.alloc(), &mut system, folder, with_words, checks)
 }
 
 /// Prints how each file of the folder at this path reads, and then which world they hold, with
 /// its words if they are asked for. On standard error it names what was lost. A server may write
-/// the world meanwhile. This writes nothing into the folder.
+/// the world meanwhile. This writes nothing into the folder. It returns how the command ends.
 pub fn report_files<F: Folder>(
     alloc: Global,
     folder: &mut F,
     path: &str,
     with_words: bool,
-    on_loss: OnLoss,
-) -> Result<(), Ending>
-    ensures reported { IsTrue F.honest → IsTrue F.File.honest → OnOk result
-        (IsInspected with_words on_loss (F.history folder.old) (F.history folder.new)) }
+    checks: Checks,
+) -> Result<Ending, Ending>
+    ensures reported { IsTrue F.honest → IsTrue F.File.honest → IfOk result (λ ending.
+        IsInspected with_words checks ending (F.history folder.old) (F.history folder.new)) }
+    ensures done { IfOk result IsDone }
     ensures fault { IfErr result IsFault }
 {
     let seen = look_at_folder(alloc, folder, path, Reading::Synced)?;
     print_files(alloc, folder, &seen)?;
-    let (_, found) = found_in(alloc, path, seen.files, on_loss)?;
+    let (_, found) = found_in(alloc, path, seen.files, checks)?;
+    warn_of_failed(folder, seen.failed)?;
     warn_of(folder, found.finding)?;
     folder.print(FoundReport::of(&found.world))?;
     print_words(alloc, folder, &found.world, with_words)?;
-    Ok(())
+    Ok(Ending::of_finding(found.finding))
 }
 
 // Prints the words of a world, if they are asked for.

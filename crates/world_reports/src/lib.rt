@@ -9,6 +9,7 @@
 mod backing_up;
 mod copying;
 mod counted;
+mod dropped;
 mod figures;
 mod file_reports;
 mod inspecting;
@@ -17,6 +18,8 @@ mod looks;
 mod recovering;
 mod salvaging;
 mod served;
+mod taking_back;
+mod two_tries;
 mod verified;
 
 pub use backing_up::{back_up, copy_into};

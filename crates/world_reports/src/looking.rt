@@ -11,7 +11,8 @@ use disk_model::FourFiles;
 use std::alloc::Global;
 use std::io;
 use world_folder::{
-    Ending, Folder, Found, Named, OnLoss, Reading, WorldFile, all_read, read_folder, stands_in,
+    Checks, Ending, Folder, Found, Named, Reading, Unreadable, WorldFile, all_read, read_folder,
+    stands_in,
 };
 
 /// The bytes of four files at one time that their formats read, and how long the files are.
@@ -22,6 +23,8 @@ pub struct Seen {
     pub lengths: FourFiles<Option<u64>>,
     /// How often the look was begun.
     pub tries: u32,
+    /// The file whose read failed before each was read by itself.
+    pub failed: Option<Unreadable>,
 }
 
 /// The world that the files of a folder hold at one time.
@@ -32,6 +35,8 @@ pub struct SeenWorld {
     pub lengths: FourFiles<u64>,
     /// How often the look was begun.
     pub tries: u32,
+    /// The file whose read failed before each was read by itself.
+    pub failed: Option<Unreadable>,
     pub found: Found,
 }
 
@@ -41,22 +46,24 @@ pub fn look_for_world<F: Folder>(
     folder: &mut F,
     path: &str,
     how: Reading,
-    on_loss: OnLoss,
+    checks: Checks,
 ) -> Result<SeenWorld, Ending>
     ensures seen { IsTrue F.honest → IsTrue F.File.honest → IfOk result (λ seen.
-        IsWorldSeen on_loss seen (F.history folder.old) (F.history folder.new)) }
+        IsWorldSeen checks seen (F.history folder.old) (F.history folder.new)) }
     ensures fault { IfErr result IsFault }
 {
     let Seen {
         files,
         lengths,
         tries,
+        failed,
     } = look_at_folder(alloc, folder, path, how)?;
-    let (files, found) = found_in(alloc, path, files, on_loss)?;
+    let (files, found) = found_in(alloc, path, files, checks)?;
     Ok(SeenWorld {
         lengths: lengths_known(&lengths, &files),
         files,
         tries,
+        failed,
         found,
     })
 }
@@ -66,17 +73,17 @@ pub fn found_in(
     alloc: Global,
     folder: &str,
     files: FourFiles<Named<io::Result<Vec<u8>>>>,
-    on_loss: OnLoss,
+    checks: Checks,
 ) -> Result<(FourFiles<Vec<u8>>, Found), Ending>
     ensures read { IfOk result (λ found. AreRead files found.0) }
     ensures found { IfOk result (λ found. Stands found.0 found.1.world) }
     ensures judged { IfOk result (λ found.
-        AreJudged on_loss found.0 found.1.world found.1.finding) }
-    ensures why { IfErr result (ReportsWhy on_loss folder.now files) }
+        AreJudged checks found.0 found.1.world found.1.finding) }
+    ensures why { IfErr result (ReportsWhy checks folder.now files) }
     ensures fault { IfErr result IsFault }
 {
     let files = all_read(alloc, folder, files)?;
-    match stands_in(alloc, &files, on_loss) {
+    match stands_in(alloc, &files, checks) {
         Ok(found) => Ok((files, found)),
         Err(fault) => Err(Ending::NoWorld(fault)),
     }
@@ -95,7 +102,8 @@ fn lengths_known(lengths: &FourFiles<Option<u64>>, files: &FourFiles<Vec<u8>>) -
 }
 
 /// Looks at both images and the log of the folder at this path, opened so. If no image is open, or
-/// a file can't be read, no server writes a world there, and each file is read by itself.
+/// a file can't be read, no server writes a world there, and each file is read by itself. A file
+/// that couldn't be read at first is returned with its error.
 pub fn look_at_folder<F: Folder>(
     alloc: Global,
     folder: &mut F,
@@ -112,17 +120,23 @@ pub fn look_at_folder<F: Folder>(
             files: named(copied.files),
             lengths: known(copied.lengths),
             tries: copied.tries,
+            failed: None,
         }),
         Err(NotCopied::Unsteady(ending)) => Err(ending),
-        Err(NotCopied::NoImage | NotCopied::Unreadable) => Ok(look_at_each(alloc, folder)),
+        Err(NotCopied::NoImage) => Ok(look_at_each(alloc, folder, None)),
+        Err(NotCopied::Unreadable(Ending::Unreadable(file))) => {
+            Ok(look_at_each(alloc, folder, Some(file)))
+        }
+        Err(NotCopied::Unreadable(_)) => Ok(look_at_each(alloc, folder, None)),
     }
 }
 
 // Reads each file by itself, and then asks how long it is.
-fn look_at_each<F: Folder>(alloc: Global, folder: &mut F) -> Seen
+fn look_at_each<F: Folder>(alloc: Global, folder: &mut F, failed: Option<Unreadable>) -> Seen
     ensures seen { IsTrue F.honest → IsTrue F.File.honest
         → AreReadAndMeasured result (F.history folder.old) (F.history folder.new) }
     ensures named { AreNamed result.files }
+    ensures failed { result.failed ≡ failed }
 {
     let files = read_folder(alloc, folder);
     let lengths = lengths_in(folder);
@@ -130,6 +144,7 @@ fn look_at_each<F: Folder>(alloc: Global, folder: &mut F) -> Seen
         files,
         lengths,
         tries: 1,
+        failed,
     }
 }
 

@@ -1,46 +1,65 @@
-ghost use Rattle.std.specs.Prelude.{◌≡◌, Some, IsTrue, IfErr, OnOk};
-ghost use Rattle.world_folder.specs.Ending.{IsFault};
+ghost use Rattle.std.specs.Prelude.{◌≡◌, Some, IsTrue, IfOk, IfErr, OnOk};
+ghost use Rattle.world_folder.specs.Ending.{IsDone, IsFault};
 ghost use Rattle.world_folder.specs.Texts.{finding_line, recovered_line};
-ghost use Rattle.world_reports.specs.Reports.{IsWorldReported, with_finding};
+ghost use Rattle.world_reports.specs.Reports.{IsWorldReported, NamesFailed, with_finding};
 
 use crate::looking::look_for_world;
 use std::alloc::Global;
 use std::fs::{self, File};
 use std::time::Clock;
 use std::{fmt, io};
-use world_folder::{Ending, Finding, Folder, OnLoss, Reading, SystemFolder, WorldReport};
+use world_folder::{
+    Checks, Ending, Finding, Folder, OnLoss, Reading, Reason, SystemFolder, Unreadable,
+    WorldReport, checks_in,
+};
 
 /// Prints which world the files of a folder of the system hold, as `report_world` does.
 pub fn recover<R: fs::Files<File = File> + Clock + Print + Eprint + AllocGlobal>(
     rt: &R,
     folder: &str,
     on_loss: OnLoss,
-) -> Result<(), Ending>
-    ensures { IfErr result IsFault }
+) -> Result<Ending, Ending>
+    ensures done { IfOk result IsDone }
+    ensures fault { IfErr result IsFault }
 {
+    let checks = checks_in(rt, folder, on_loss)?;
     report_world(
         rt.alloc(),
         &mut SystemFolder::new(rt, folder),
         folder,
-        on_loss,
+        checks,
     )
 }
 
 /// Prints which world the files of the folder at this path hold, which a server may write
-/// meanwhile. It writes nothing into the folder. On standard error it names what was lost.
+/// meanwhile. It writes nothing into the folder. On standard error it names what was lost. It
+/// returns how the command ends.
 pub fn report_world<F: Folder>(
     alloc: Global,
     folder: &mut F,
     path: &str,
-    on_loss: OnLoss,
-) -> Result<(), Ending>
-    ensures reported { IsTrue F.honest → IsTrue F.File.honest
-        → OnOk result (IsWorldReported on_loss (F.history folder.old) (F.history folder.new)) }
+    checks: Checks,
+) -> Result<Ending, Ending>
+    ensures reported { IsTrue F.honest → IsTrue F.File.honest → IfOk result (λ ending.
+        IsWorldReported checks ending (F.history folder.old) (F.history folder.new)) }
+    ensures done { IfOk result IsDone }
     ensures fault { IfErr result IsFault }
 {
-    let seen = look_for_world(alloc, folder, path, Reading::Synced, on_loss)?;
+    let seen = look_for_world(alloc, folder, path, Reading::Synced, checks)?;
+    warn_of_failed(folder, seen.failed)?;
     warn_of(folder, seen.found.finding)?;
     folder.print(RecoveredLine(WorldReport::of(&seen.found.world)))?;
+    Ok(Ending::of_finding(seen.found.finding))
+}
+
+/// Names on standard error a file whose read failed, and was tried again.
+pub fn warn_of_failed<F: Folder>(folder: &mut F, failed: Option<Unreadable>) -> io::Result<()>
+    ensures { IsTrue F.honest
+        → OnOk result (NamesFailed failed (F.history folder.old) (F.history folder.new)) }
+{
+    if let Some(file) = failed {
+        folder.warn(FailedLine(file))?;
+    }
     Ok(())
 }
 
@@ -64,6 +83,21 @@ impl fmt::Display for RecoveredLine {
 
     fn fmt<W: fmt::Write>(&self, f: &mut fmt::Formatter<W>) -> fmt::Result {
         write!(f, "recovered {}", self.0)
+    }
+}
+
+// The line on a file whose read failed at first.
+#[derive(Drop)]
+struct FailedLine(Unreadable);
+
+impl fmt::Display for FailedLine {
+    fn fmt<W: fmt::Write>(&self, f: &mut fmt::Formatter<W>) -> fmt::Result {
+        let path = self.0.path.as_str();
+        let reason = Reason(self.0.error);
+        write!(
+            f,
+            "worldd: {path}: a read failed, and was tried again: {reason}"
+        )
     }
 }
 

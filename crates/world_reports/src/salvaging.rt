@@ -1,14 +1,21 @@
 //! A new world of what can be read of damaged files.
-ghost use Rattle.std.specs.Prelude.{◌≡◌, ◌↔◌, ◌++◌, codes, Some, IsTrue, IfOk, IfErr, OnOk};
+ghost use Rattle.std.specs.Prelude.{◌≡◌, ◌++◌, codes, Some, IsTrue, IfOk, IfErr, OnOk};
 ghost use Rattle.world_actions.specs.World.{IsWorld};
-ghost use Rattle.world_folder.specs.Ending.{IsFault};
-ghost use Rattle.world_reports.specs.Salvaging.{IsLost, AreBytesOf, NamesLost, AreTakenOf};
-ghost use Rattle.world_reports.specs.Salvaging.{IsSalvagedOf, IsSalvagedInto, parts_printed};
+ghost use Rattle.world_folder.specs.Ending.{IsDone, IsFault};
+ghost use Rattle.world_reports.specs.Reports.{NamesFailed};
+ghost use Rattle.world_reports.specs.Salvaging.{AreBytesOf, NamesLost, AreTakenOf, lost_of};
+ghost use Rattle.world_reports.specs.Salvaging.{failed_of, AreFailedNamed, parts_printed};
+ghost use Rattle.world_reports.specs.Salvaging.{IsSalvagedOf, IsSalvagedInto, IsMadeOf};
+ghost use Rattle.world_reports.specs.Salvaging.{ending_after};
 ghost use Rattle.world_reports.specs.Texts.{image_part_text, log_part_text, run_text};
 ghost use Rattle.world_folder.specs.WorldFile.{name_of};
 
 use crate::backing_up::{look_for_room, write_files};
 use crate::counted::Counted;
+use crate::dropped::Dropped;
+use crate::recovering::{warn_of, warn_of_failed};
+use crate::taking_back::taken_back;
+use crate::two_tries::{TwoTries, is_lost, try_folder};
 use crate::verified::{SalvagedInto, verify};
 use disk_model::FourFiles;
 use file_format::{CLOSED_GATE, OPEN_GATE};
@@ -16,12 +23,14 @@ use image_files::image_body;
 use recovery::{Recovered, Slot};
 use salvage::{ImagePart, LogPart, Salvaged, salvage};
 use std::alloc::{AllocError, Global};
-use std::fmt;
 use std::fs::{File, Files};
-use std::io::{self, ErrorKind};
 use std::time::Clock;
+use std::{fmt, io};
 use world_actions::Refusal;
-use world_folder::{Ending, Fault, Folder, Named, SystemFolder, WorldFile, opened, read_folder};
+use world_folder::{
+    Ending, Fault, Finding, Folder, Guard, MadeFiles, SystemFolder, Unreadable, WorldFile,
+    older_finding, opened, path_of, read_guard,
+};
 
 /// Makes a world in an empty folder of the system of what can be read of the files of another one,
 /// as `salvage_into` does.
@@ -29,48 +38,155 @@ pub fn salvage_world<R: Files<File = File> + Clock + Print + Eprint + AllocGloba
     rt: &R,
     folder: &str,
     to: &str,
-) -> Result<(), Ending>
-    ensures { IfErr result IsFault }
+) -> Result<Ending, Ending>
+    ensures done { IfOk result IsDone }
+    ensures fault { IfErr result IsFault }
 {
     let mut from = SystemFolder::new(rt, folder);
     let mut into = SystemFolder::new(rt, to);
-    salvage_into(rt.alloc(), &mut from, folder, &mut into, to)?;
-    Ok(())
+    let guard = read_guard(rt, folder)?;
+    let (_, ending) = salvage_into(rt.alloc(), &mut from, folder, &mut into, to, guard)?;
+    Ok(ending)
 }
 
 /// Makes a world in an empty folder of what can be read of the files of another one, in which
-/// nothing is written. It prints what it took of each file, and which world the new files hold: its
-/// image, beside closed files. These files are returned.
+/// nothing is written. It prints what it took of each file, which world the new files hold, and of
+/// which files something was dropped. It makes its image, beside closed files. These files are
+/// returned, and how the command ends: the world may be older if something was dropped, and is if
+/// its guard says so. If it fails, the files that it made are removed, or named.
 pub fn salvage_into<F: Folder, T: Folder>(
     alloc: Global,
     from: &mut F,
     path: &str,
     into: &mut T,
     to: &str,
-) -> Result<FourFiles<T::File>, Ending>
+    guard: Option<Guard>,
+) -> Result<(FourFiles<T::File>, Ending), Ending>
     ensures salvaged { IsTrue F.honest → IsTrue F.File.honest → IsTrue T.honest
-        → IsTrue T.File.honest → IfOk result (λ files.
-        IsSalvagedInto T.File.content T.File.may_leave files (F.history from.old)
-        (F.history from.new) (T.history into.old) (T.history into.new)) }
+        → IsTrue T.File.honest → IfOk result (λ done.
+        IsSalvagedInto T.File.content T.File.may_leave path.now guard done.0 done.1
+        (F.history from.old) (F.history from.new) (T.history into.old) (T.history into.new)) }
+    ensures done { IfOk result (λ done. IsDone done.1) }
     ensures fault { IfErr result IsFault }
 {
-    look_for_room(alloc, into, to)?;
-    let read = read_folder(alloc, from);
-    let files = readable_in(alloc, path, read, into)?;
-    let salvaged = salvaged_of(alloc, &files)?;
+    look_for_room(alloc, path, into, to)?;
+    let read = try_folder(alloc, from);
+    let mut made = MadeFiles::none();
+    match salvage_read(alloc, path, read, into, to, guard, &mut made) {
+        Ok(done) => Ok(done),
+        Err(ending) => Err(taken_back(alloc, into, to, made, ending)),
+    }
+}
+
+// Makes a world of what could be read of the files of a folder at this path, and reports it.
+fn salvage_read<T: Folder>(
+    alloc: Global,
+    path: &str,
+    read: FourFiles<TwoTries>,
+    into: &mut T,
+    to: &str,
+    guard: Option<Guard>,
+    made: &mut MadeFiles,
+) -> Result<(FourFiles<T::File>, Ending), Ending>
+    ensures salvaged { IsTrue T.honest → IsTrue T.File.honest → IfOk result (λ done.
+        IsMadeOf T.File.content T.File.may_leave guard read done.0 done.1 (T.history into.old)
+        (T.history into.new)) }
+    ensures done { IfOk result (λ done. IsDone done.1) }
+    ensures fault { IfErr result IsFault }
+{
+    let lost = lost_of(&read);
+    let failed = failed_of(&read);
+    let taken = readable_in(alloc, path, read, into)?;
+    let salvaged = salvaged_of(alloc, &taken)?;
+    let dropped = Dropped::of(&lost, &taken, &salvaged);
     print_parts(into, &salvaged)?;
     let bytes = bytes_of(alloc, &salvaged.found)?;
-    let made = write_files(alloc, into, to, &bytes, Slot::A)?;
+    let files = write_files(alloc, into, to, &bytes, Slot::A, made)?;
     let verified = verify(alloc, into, to, &salvaged.found)?;
+    warn_of_each(alloc, path, &failed, into)?;
+    let older = older_finding(guard, salvaged.found.tick);
+    warn_of(into, older)?;
     into.print(SalvagedInto(verified))?;
-    Ok(made)
+    into.print(dropped)?;
+    Ok((files, ending_after(older, dropped)))
+}
+
+// How a command ends that dropped this of a world that is older than its guard, or isn't.
+fn ending_after(older: Option<Finding>, dropped: Dropped) -> Ending
+    ensures ends { result ≡ ending_after older dropped }
+    ensures done { IsDone result }
+{
+    match older {
+        Some(_) => Ending::MayBeOlder,
+        None => dropped.ending(),
+    }
+}
+
+// Which files can't be read.
+fn lost_of(read: &FourFiles<TwoTries>) -> FourFiles<bool>
+    ensures { result ≡ lost_of read.now }
+{
+    FourFiles {
+        image_a: read.image_a.value.is_err(),
+        image_b: read.image_b.value.is_err(),
+        log_a: read.log_a.value.is_err(),
+        log_b: read.log_b.value.is_err(),
+    }
+}
+
+// The errors of the first tries of files that a second try could read.
+fn failed_of(read: &FourFiles<TwoTries>) -> FourFiles<Option<io::Error>>
+    ensures { result ≡ failed_of read.now }
+{
+    FourFiles {
+        image_a: read.image_a.failed_once(),
+        image_b: read.image_b.failed_once(),
+        log_a: read.log_a.failed_once(),
+        log_b: read.log_b.failed_once(),
+    }
+}
+
+// Names on standard error each file that only a second try could read.
+fn warn_of_each<T: Folder>(
+    alloc: Global,
+    path: &str,
+    failed: &FourFiles<Option<io::Error>>,
+    into: &mut T,
+) -> Result<(), Ending>
+    ensures named { IsTrue T.honest
+        → OnOk result (AreFailedNamed failed.now (T.history into.old) (T.history into.new)) }
+    ensures fault { IfErr result IsFault }
+{
+    warn_of_one(alloc, path, WorldFile::ImageA, failed.image_a, into)?;
+    warn_of_one(alloc, path, WorldFile::ImageB, failed.image_b, into)?;
+    warn_of_one(alloc, path, WorldFile::LogA, failed.log_a, into)?;
+    warn_of_one(alloc, path, WorldFile::LogB, failed.log_b, into)
+}
+
+fn warn_of_one<T: Folder>(
+    alloc: Global,
+    path: &str,
+    file: WorldFile,
+    failed: Option<io::Error>,
+    into: &mut T,
+) -> Result<(), Ending>
+    ensures named { IsTrue T.honest
+        → OnOk result (NamesFailed failed (T.history into.old) (T.history into.new)) }
+    ensures fault { IfErr result IsFault }
+{
+    let Some(error) = failed else {
+        return Ok(());
+    };
+    let path = path_of(alloc, path, file.name())?;
+    warn_of_failed(into, Some(Unreadable { path, error }))?;
+    Ok(())
 }
 
 // The bytes of the files of a folder that can be read. A file that was lost has none, and is named.
 fn readable_in<T: Folder>(
     alloc: Global,
     path: &str,
-    read: FourFiles<Named<io::Result<Vec<u8>>>>,
+    read: FourFiles<TwoTries>,
     into: &mut T,
 ) -> Result<FourFiles<Vec<u8>>, Ending>
     ensures taken { IsTrue T.honest
@@ -94,7 +210,7 @@ fn readable_in<T: Folder>(
 fn readable<T: Folder>(
     alloc: Global,
     path: &str,
-    file: Named<io::Result<Vec<u8>>>,
+    file: TwoTries,
     into: &mut T,
 ) -> Result<Vec<u8>, Ending>
     ensures bytes { IfOk result (AreBytesOf file.value) }
@@ -119,13 +235,6 @@ impl fmt::Display for LostLine {
     fn fmt<W: fmt::Write>(&self, f: &mut fmt::Formatter<W>) -> fmt::Result {
         write!(f, "{}: lost: {}", self.0.name(), self.1)
     }
-}
-
-// True if a file isn't there, or its device can't read it.
-fn is_lost(error: &io::Error) -> bool
-    ensures { IsTrue result ↔ IsLost error.now }
-{
-    error.kind() == ErrorKind::NotFound || error.raw_os_error() == Some(libc::EIO)
 }
 
 fn salvaged_of(alloc: Global, files: &FourFiles<Vec<u8>>) -> Result<Salvaged, Ending>

@@ -1,6 +1,7 @@
 //! The report on the server of a world, by the locks of its files.
 ghost use Rattle.std.specs.Prelude.{◌≡◌, Some, IsTrue, IfOk};
-ghost use Rattle.world_reports.specs.Served.{IsServerReport, asked, part_reported, server_reported};
+ghost use Rattle.world_reports.specs.Served.{IsServerReport, asked, folder_reported};
+ghost use Rattle.world_reports.specs.Served.{part_reported, server_reported};
 ghost use Rattle.world_reports.specs.Texts.{part_text, server_text};
 
 use std::{fmt, io};
@@ -19,6 +20,8 @@ pub enum PartReport {
 pub enum ServerReport {
     /// A program writes the world: a server, or one that makes it.
     Running { log: PartReport, images: PartReport },
+    /// A server runs, and none of the files under their names are its own: they were replaced.
+    Replaced,
     /// No program does.
     Missing,
     Unknown,
@@ -33,6 +36,11 @@ pub struct Locks {
     pub image_b: LockState,
     /// It holds this one once its log is down.
     pub log_a: LockState,
+    /// It holds this one from its start to its end, whatever files stand under their names. It is
+    /// asked for before the others.
+    pub folder: LockState,
+    /// The same one, after the others.
+    pub folder_still: LockState,
 }
 
 /// Reports on the server of the world in a folder. It asks for locks, and gives them back at once.
@@ -45,12 +53,14 @@ pub fn server_in<F: Folder>(folder: &mut F) -> io::Result<ServerReport>
     Ok(report_of_locks(&locks))
 }
 
-// Asks for the lock of image.a last. A server that starts or ends meanwhile is then reported as one
-// without a fault, or as none.
+// Asks for the lock of image.a after those of its parts, and for that of the folder before and
+// after all. A server that starts or ends meanwhile is then reported as one without a fault, or as
+// none.
 fn locks_in<F: Folder>(folder: &mut F) -> io::Result<Locks>
     ensures { IsTrue F.honest
         → IfOk result (λ locks. F.history folder.new ≡ asked locks (F.history folder.old)) }
 {
+    let own = folder.own_lock_state()?;
     let image_b = folder.lock_state(WorldFile::ImageB)?;
     let log_a = folder.lock_state(WorldFile::LogA)?;
     let image_a = folder.lock_state(WorldFile::ImageA)?;
@@ -58,6 +68,8 @@ fn locks_in<F: Folder>(folder: &mut F) -> io::Result<Locks>
         image_a,
         image_b,
         log_a,
+        folder: own,
+        folder_still: folder.own_lock_state()?,
     })
 }
 
@@ -70,8 +82,18 @@ fn report_of_locks(locks: &Locks) -> ServerReport
             log: report_part(locks.log_a),
             images: report_part(locks.image_b),
         },
-        LockState::Free => ServerReport::Missing,
+        LockState::Free => report_without_files(locks.folder, locks.folder_still),
         LockState::Unknown => ServerReport::Unknown,
+    }
+}
+
+// What the folder's lock says of a server if that of image.a is free between the two answers.
+fn report_without_files(before: LockState, after: LockState) -> ServerReport
+    ensures { result ≡ folder_reported before after }
+{
+    match (before, after) {
+        (LockState::Held, LockState::Held) => ServerReport::Replaced,
+        _ => ServerReport::Missing,
     }
 }
 
@@ -105,6 +127,9 @@ impl fmt::Display for ServerReport {
         match self {
             ServerReport::Running { log, images } => {
                 write!(f, "server: running, log {log}, images {images}")
+            }
+            ServerReport::Replaced => {
+                f.write_str("server: running, on files that were removed or replaced")
             }
             ServerReport::Missing => f.write_str("server: none"),
             ServerReport::Unknown => f.write_str("server: unknown"),

@@ -9,7 +9,7 @@ use crate::looking::found_in;
 use recovery::Recovered;
 use std::alloc::Global;
 use std::{fmt, io};
-use world_folder::{Ending, Folder, OnLoss, WorldReport, ending_for, read_folder};
+use world_folder::{Checks, Ending, Folder, OnLoss, WorldReport, ending_for, read_folder};
 
 /// Why what was written isn't reported as a world.
 const OTHER_WORLD: &str = "its files hold another world than was written into them";
@@ -58,7 +58,7 @@ pub fn verify<F: Folder>(
     ensures fault { IfErr result IsFault }
 {
     let read = read_folder(alloc, folder);
-    let (_, found) = found_in(alloc, path, read, OnLoss::Warn)?;
+    let (_, found) = found_in(alloc, path, read, Checks::of(OnLoss::Warn))?;
     match Verified::of(written, &found.world) {
         Some(verified) => Ok(verified),
         None => Err(ending_for(alloc, "", path, io::Error::other(OTHER_WORLD))),

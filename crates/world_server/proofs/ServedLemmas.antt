@@ -18,7 +18,7 @@ use Rattle.workers.specs.Logging.{Logging}
 use Rattle.worker_steps.specs.Stopped.{WorldStands, StaysSound}
 use Rattle.worker_threads.specs.Opening.{files_of}
 use Rattle.world_folder.specs.declared.found.WorldReport.{WorldReport}
-use Rattle.world_folder.specs.declared.lost.OnLoss.{OnLoss}
+use Rattle.world_folder.specs.declared.lost.Checks.{Checks}
 use Rattle.world_server.specs.declared.line.Line.{Line}
 use Rattle.world_server.specs.declared.served.WorldFailure.{WorldFailure}
 use Rattle.world_server.specs.declared.served.WorldFailure.TheVariants as failure
@@ -73,13 +73,13 @@ module _ {D : Type 0} (file : D → List ℕ) (leaves : D → List ℕ → Type 
       subst (λ r. KeepsWorld file leaves files r.tick left) (sym g.0) (subst (KeepsWorld file leaves files world.tick) (sym g.1) keeps)
   given_left files given world keeps (failure.NotRun recovered ending) g = tt
 
-pub given_reason : {D S : Type 0} (file : D → List ℕ) (honest : Bool) (on_loss : OnLoss) (files given : FourFiles D) (world : WorldReport)
-    (r : Result S (WorldFailure D)) → IfErr r (GivesBack world given) → IfErr r (FailsFor file honest on_loss files)
-given_reason file honest on_loss files given world (Ok s) g = tt
-given_reason file honest on_loss files given world (Err (failure.NotRecovered left why)) g = absurd g
-given_reason file honest on_loss files given world (Err (failure.NotStarted recovered left refusal)) g = absurd g
-given_reason file honest on_loss files given world (Err (failure.NotOpened recovered left ending)) g = tt
-given_reason file honest on_loss files given world (Err (failure.NotRun recovered ending)) g = tt
+pub given_reason : {D S : Type 0} (file : D → List ℕ) (honest : Bool) (checks : Checks) (files given : FourFiles D) (world : WorldReport)
+    (r : Result S (WorldFailure D)) → IfErr r (GivesBack world given) → IfErr r (FailsFor file honest checks files)
+given_reason file honest checks files given world (Ok s) g = tt
+given_reason file honest checks files given world (Err (failure.NotRecovered left why)) g = absurd g
+given_reason file honest checks files given world (Err (failure.NotStarted recovered left refusal)) g = absurd g
+given_reason file honest checks files given world (Err (failure.NotOpened recovered left ending)) g = tt
+given_reason file honest checks files given world (Err (failure.NotRun recovered ending)) g = tt
 
 -- ---- the lines
 

@@ -1,5 +1,6 @@
 -- The texts of the lines that a server prints.
-use Rattle.std.specs.Prelude.{ℕ, List, [], ◌++◌, codes, decimal, Option, Some, None}
+use Rattle.std.specs.Prelude.{ℕ, List, [], ◌++◌, ◌==◌, codes, decimal, Option, Some, None}
+use Rattle.std.specs.Prelude.{if◌then◌else◌}
 use Rattle.std.specs.Net.Socket.{socket_port}
 use Rattle.std.specs.Path.{path_buf_bytes}
 use Rattle.client_service.specs.declared.door.Unserved.TheVariants.{NoMemory, NoThread}
@@ -8,9 +9,16 @@ use Rattle.world_server.specs.declared.line.Line.{Line}
 use Rattle.world_server.specs.declared.line.Line.TheVariants as line
 use Rattle.world_server.specs.declared.line.Paths.{Paths}
 use Rattle.world_server.specs.Paths.{path_at}
+use Rattle.world_server.specs.Room.{room_after}
 use Rattle.world_server.specs.declared.place.Place.{Place}
 use Rattle.world_server.specs.declared.place.Place.TheVariants as place
 use Rattle.world_server.specs.declared.reporter.Report.{Report}
+
+-- the room for ticks after so many, and for how many seconds it lasts, if that is known
+abbrev pub left_text : (since : ℕ) → Option ℕ → List ℕ
+left_text since None = codes " room " ++ decimal (room_after since)
+left_text since (Some seconds) =
+    codes " room " ++ decimal (room_after since) ++ codes " lasts " ++ decimal seconds
 
 -- the figures of a running server
 abbrev pub report_text : Report → List ℕ
@@ -19,6 +27,15 @@ report_text report =
     ++ codes " image " ++ decimal report.counts.image
     ++ codes " sessions " ++ decimal report.counts.sessions ++ codes " batches/s "
     ++ decimal report.rate ++ codes " waiting " ++ decimal report.counts.waiting
+    ++ left_text report.counts.since report.seconds_left
+
+-- the room for ticks that is left
+abbrev pub room_text : (left : ℕ) → List ℕ
+room_text left =
+    if left == 0
+    then codes "each batch is refused with 6: no image has opened for 65536 ticks"
+    else codes "images down: " ++ decimal left
+    ++ codes " more ticks can end, then each batch is refused with 6"
 
 -- a line, over the paths of the server's files and socket; nothing is stated of a line that may
 -- have an error of the system
@@ -27,6 +44,9 @@ line_text paths line.ManyImages =
     Some (codes "an image every 64 ticks can halve the speed: give --every, for example 4096")
 line_text paths (line.Recovered ended from) = Some (codes "recovered " ++ world_text ended from)
 line_text paths (line.Found finding) = Some (finding_text finding)
+line_text paths (line.LossAccepted tick) =
+    Some (codes "the loss is accepted: numbers after tick " ++ decimal tick
+    ++ codes " are given again, since a log has no gap")
 line_text paths (line.Listening port) = Some (codes "listening " ++ decimal port)
 line_text paths line.ListeningAtSocket = Some (codes "listening " ++ path_buf_bytes paths.socket)
 line_text paths (line.Stopped ended acked) =
@@ -36,6 +56,7 @@ line_text paths (line.ImageOpened tick) =
 line_text paths (line.FileMissed file) =
     Some (path_buf_bytes (path_at paths.files file)
     ++ codes " was removed or replaced: save the files before the server ends")
+line_text paths (line.RoomLeft left) = Some (room_text left)
 line_text paths (line.SessionRefused NoMemory) = Some (codes "session refused: there is no memory")
 line_text paths (line.SessionRefused NoThread) = Some (codes "session refused: there is no thread")
 line_text paths line.ShortageEnded = Some (codes "clients no longer wait")

@@ -21,7 +21,7 @@ use Rattle.world_folder.specs.Unrecovered.{IsUnrecovered}
 use Rattle.world_folder.specs.declared.ending.Ending.{Ending}
 use Rattle.world_folder.specs.declared.found.WorldReport.{WorldReport}
 use Rattle.world_folder.specs.declared.lost.Finding.{Finding}
-use Rattle.world_folder.specs.declared.lost.OnLoss.{OnLoss}
+use Rattle.world_folder.specs.declared.lost.Checks.{Checks}
 use Rattle.world_server.specs.Serving.{EndsServing}
 use Rattle.world_server.specs.declared.line.Line.{Line}
 use Rattle.world_server.specs.declared.line.Line.TheVariants as line
@@ -112,17 +112,16 @@ module _ {D : Type 0} (file : D → List ℕ) (leaves : D → List ℕ → Type 
   LeavesWorld files (failure.NotOpened world left ending) = KeepsWorld files world.tick left
   LeavesWorld files (failure.NotRun world ending) = Unit {0}
 
--- The reason why a world isn't served: recovery refuses the files, or one of them was lost and that
--- is to be refused, or its start found no memory or a device failed. What else fails, the ending
--- says.
-abbrev pub FailsFor : {D : Type 0} → (file : D → List ℕ) → (honest : Bool) → OnLoss → FourFiles D
+-- The reason why a world isn't served: recovery or the checks refuse the files, or its start found
+-- no memory or a device failed. What else fails, the ending says.
+abbrev pub FailsFor : {D : Type 0} → (file : D → List ℕ) → (honest : Bool) → Checks → FourFiles D
     → WorldFailure D → Type 0
-FailsFor file honest on_loss files (failure.NotRecovered left why) =
-    IsUnrecovered file honest on_loss files why
-FailsFor file honest on_loss files (failure.NotStarted world left refusal) =
+FailsFor file honest checks files (failure.NotRecovered left why) =
+    IsUnrecovered file honest checks files why
+FailsFor file honest checks files (failure.NotStarted world left refusal) =
     (refusal ≡ NoMemory) ⊎ (refusal ≡ Device)
-FailsFor file honest on_loss files (failure.NotOpened world left ending) = Unit {0}
-FailsFor file honest on_loss files (failure.NotRun world ending) = Unit {0}
+FailsFor file honest checks files (failure.NotOpened world left ending) = Unit {0}
+FailsFor file honest checks files (failure.NotRun world ending) = Unit {0}
 
 -- an open world that isn't served has its files again, unless workers have them
 abbrev pub GivesBack : {D : Type 0} → WorldReport → FourFiles D → WorldFailure D → Type 0

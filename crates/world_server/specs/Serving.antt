@@ -1,5 +1,8 @@
 -- How a server ends.
-use Rattle.std.specs.Prelude.{◌≡◌, ◌≢◌, Bool, true, false, if◌then◌else◌}
+use Rattle.std.specs.Prelude.{◌≡◌, ◌≢◌, ◌≤◌, ◌*◌, ℕ, Bool, true, false, Option, Some}
+use Rattle.std.specs.Prelude.{if◌then◌else◌}
+use Rattle.std.specs.Duration.{as_nanos}
+use Rattle.std.specs.declared.time.Duration.{Duration}
 use Rattle.world_actions.specs.declared.refusal.Refusal.TheVariants.{NoMemory}
 use Rattle.image_files.specs.declared.phase.Phase.{Phase}
 use Rattle.image_files.specs.declared.phase.Phase.TheVariants.{Down}
@@ -7,15 +10,17 @@ use Rattle.client_service.specs.declared.accept.Closed.{Closed}
 use Rattle.client_service.specs.declared.accept.Closed.TheVariants as closed
 use Rattle.world_folder.specs.declared.ending.Ending.{Ending}
 use Rattle.world_folder.specs.declared.ending.Ending.TheVariants.{Ran, HelpPrinted, Mistaken, Fault}
-use Rattle.world_folder.specs.declared.ending.Ending.TheVariants.{Server}
+use Rattle.world_folder.specs.declared.ending.Ending.TheVariants.{MayBeOlder, Server}
 use Rattle.world_folder.specs.declared.ending.ServerEnding.TheVariants.{ListenerFailed, ImagesDown}
 use Rattle.world_folder.specs.declared.ending.ServerEnding.TheVariants.{LogDown}
 use Rattle.world_server.specs.declared.standing.Losses.{Losses}
 
--- A server ran to its end, or a fault or a failure ended it. No command line ends it.
+-- A server ran to its end, or a fault or a failure ended it. No command line ends it, and no older
+-- world.
 abbrev pub EndsServing : Ending → Type 0
 EndsServing HelpPrinted = ⊥
 EndsServing Mistaken = ⊥
+EndsServing MayBeOlder = ⊥
 EndsServing ending = Unit {0}
 
 -- how a server ends that is left: by its log, else by its images, else by its listener; else well
@@ -24,6 +29,11 @@ left_ending lost =
     if lost.log then Server LogDown else
     (if lost.images then Server ImagesDown else
     (if lost.listener then Server ListenerFailed else Ran))
+
+-- so many seconds have passed; without a number or a known time they never have
+abbrev pub IsOverdue : (seconds : Option ℕ) → (passed : Option Duration) → Type 0
+IsOverdue (Some seconds) (Some passed) = seconds * 1000000000 ≤ as_nanos passed
+IsOverdue seconds passed = ⊥
 
 -- how a server ends whose log and images are up, by the reason why no more connections are accepted
 abbrev pub closed_ending : Closed → Ending

@@ -1,23 +1,26 @@
 //! The files of a running server: whether they still have a name, and the locks by which others
 //! see what is down.
-ghost use Rattle.std.specs.Prelude.{◌≡◌, ◌≢◌, Ok, true, false, IfOk, IfErr, IsErr};
+ghost use Rattle.std.specs.Prelude.{◌≡◌, ◌≢◌, true, false, IfOk, IfErr, IsErr};
+ghost use Rattle.std.specs.IoError.{error_kind};
 ghost use Rattle.world_folder.specs.Ending.{IsFault};
 
+use crate::runtime::LookUp;
 use disk_model::FourFiles;
 use file_disk::FileDisk;
 use std::alloc::Global;
 use std::fs::File;
-use std::io;
-use std::os::unix::fs::MetadataExt;
+use std::io::{self, ErrorKind};
+use std::path::PathBuf;
 use std::sync::atomic::{AtomicBool, Ordering};
 use std::time::Clock;
 use workers::{ImageWriter, Log};
-use world_folder::{Ending, WorldFile, lock, opened};
+use world_folder::{Ending, Entry, WorldFile, lock, opened, path_of};
 
 /// A file that a server has open, by its own descriptor.
 #[derive(Drop)]
 pub struct KeptFile {
     file: File,
+    path: PathBuf,
     is_missed: AtomicBool,
 }
 
@@ -27,14 +30,21 @@ impl KeptFile {
     {
         Ok(KeptFile {
             file: opened(alloc, folder, file.name(), disk.try_clone_file())?,
+            path: path_of(alloc, folder, file.name())?,
             is_missed: AtomicBool::new(false),
         })
     }
 
-    /// True the first time that the file has no name any more: it was removed, or another file
-    /// was moved over it.
-    pub fn is_newly_missed(&self) -> bool {
-        is_removed(self.names()) && !self.is_missed.swap(true, Ordering::SeqCst)
+    /// True the first time that the file no longer stands under its name: it or its folder was
+    /// removed or renamed, or another one took its place.
+    pub fn is_newly_missed<R: LookUp>(&self, rt: &R) -> bool {
+        let found = rt.entry_at(self.path.as_str());
+        is_missing(self.entry(), found) && !self.is_missed.swap(true, Ordering::SeqCst)
+    }
+
+    /// True if that was seen before.
+    pub fn is_missed(&self) -> bool {
+        self.is_missed.load(Ordering::SeqCst)
     }
 
     /// Locks the file up to the server's end, which `status` sees. It waits while `status` asks, a
@@ -43,9 +53,9 @@ impl KeptFile {
         let _ = lock(rt, &self.file);
     }
 
-    // How many names the file has.
-    fn names(&self) -> io::Result<u64> {
-        Ok(self.file.metadata()?.nlink())
+    // The open file.
+    fn entry(&self) -> io::Result<Entry> {
+        Ok(Entry::of(&self.file.metadata()?))
     }
 }
 
@@ -66,14 +76,28 @@ pub fn kept_files(
     })
 }
 
-// True if a file has no name. If the system can't say, it counts as one that has.
-fn is_removed(names: io::Result<u64>) -> bool
-    ensures none { names ≡ Ok 0 → result ≡ true }
-    ensures some { IfOk names (λ count. count ≢ 0 → result ≡ false) }
-    ensures unknown { IsErr names → result ≡ false }
+// True if an open file has no name, or none or another one stands under its name. If the system
+// can't say, it counts as one that is there.
+fn is_missing(held: io::Result<Entry>, found: io::Result<Entry>) -> bool
+    ensures unnamed { IfOk held (λ own. own.names ≡ 0 → result ≡ true) }
+    ensures other { IfOk held (λ own. IfOk found (λ there.
+        there.identity ≢ own.identity → result ≡ true)) }
+    ensures gone { IfOk held (λ own. IfErr found (λ error.
+        error_kind error ≡ ErrorKind.NotFound → result ≡ true)) }
+    ensures same { IfOk held (λ own. IfOk found (λ there.
+        own.names ≢ 0 → there.identity ≡ own.identity → result ≡ false)) }
+    ensures unread { IfOk held (λ own. IfErr found (λ error.
+        own.names ≢ 0 → error_kind error ≢ ErrorKind.NotFound → result ≡ false)) }
+    ensures unknown { IsErr held → result ≡ false }
 {
-    match names {
-        Ok(count) => count == 0,
-        Err(_) => false,
+    let Ok(own) = held else {
+        return false;
+    };
+    if own.names == 0 {
+        return true;
+    }
+    match found {
+        Ok(there) => there.identity != own.identity,
+        Err(error) => error.kind() == ErrorKind::NotFound,
     }
 }

@@ -6,13 +6,16 @@
 //! thread for each standard stream, so nobody waits for their readers.
 #![tactic(auto)]
 
+mod acked;
 mod front;
+mod guarding;
 mod kept;
 mod line;
 mod lines;
 mod place;
 mod printer;
 mod reporter;
+mod room;
 mod runtime;
 mod served;
 mod service;
@@ -21,10 +24,11 @@ mod socket;
 mod standing;
 mod streams;
 mod system_front;
+mod watchdog;
 
 pub use front::Front;
 pub use line::Line;
-pub use runtime::Runtime;
+pub use runtime::{LookUp, Runtime};
 pub use served::{Served, WorldFailure, serve_world, serve_world as serve_tcp};
 pub use service::{Address, Clients, Every, Service};
 pub use serving::serve;

@@ -28,6 +28,10 @@ pub enum Line {
     },
     /// This was found of the four files.
     Found(Finding),
+    /// The loss of the ticks after this one is accepted.
+    LossAccepted(u64),
+    /// The guard wasn't written.
+    GuardFailed(io::Error),
     Listening(u16),
     ListeningAtSocket,
     Stopped {
@@ -40,8 +44,10 @@ pub enum Line {
         acked: u64,
         failure: Option<Failure>,
     },
-    /// The file has no name any more.
+    /// The file no longer stands under its name.
     FileMissed(WorldFile),
+    /// So many ticks may still end until an image opens.
+    RoomLeft(u64),
     SessionRefused(Unserved),
     ShortageBegan(io::Error),
     ShortageEnded,
@@ -83,6 +89,11 @@ impl fmt::Display for Printed<'_> {
             }
             Line::Recovered { ended, from } => write!(f, "recovered {ended} from {from}"),
             Line::Found(finding) => write!(f, "{finding}"),
+            Line::LossAccepted(tick) => write!(
+                f,
+                "the loss is accepted: numbers after tick {tick} are given again, since a log has no gap"
+            ),
+            Line::GuardFailed(error) => write!(f, "the guard wasn't written: {}", Reason(error)),
             Line::Listening(port) => write!(f, "listening {port}"),
             Line::ListeningAtSocket => write!(f, "listening {}", self.paths.socket.as_str()),
             Line::Stopped { ended, acked } => write!(f, "stopped tick {ended} acked {acked}"),
@@ -100,18 +111,25 @@ impl fmt::Display for Printed<'_> {
                 "{} was removed or replaced: save the files before the server ends",
                 path_of(&self.paths.files, file).as_str()
             ),
+            Line::RoomLeft(0) => {
+                f.write_str("each batch is refused with 6: no image has opened for 65536 ticks")
+            }
+            Line::RoomLeft(left) => write!(
+                f,
+                "images down: {left} more ticks can end, then each batch is refused with 6"
+            ),
             Line::SessionRefused(Unserved::NoMemory) => {
                 f.write_str("session refused: there is no memory")
             }
             Line::SessionRefused(Unserved::NoThread) => {
                 f.write_str("session refused: there is no thread")
             }
-            Line::ShortageBegan(error) => write!(f, "clients wait: {error}"),
+            Line::ShortageBegan(error) => write!(f, "clients wait: {}", Reason(error)),
             Line::ShortageEnded => f.write_str("clients no longer wait"),
-            Line::ListenerFailed(error) => write!(f, "listener failed: {error}"),
+            Line::ListenerFailed(error) => write!(f, "listener failed: {}", Reason(error)),
             Line::PortClosed => f.write_str("the port is closed: no more clients can come"),
             Line::SocketClosed => f.write_str("the socket is closed: no more clients can come"),
-            Line::OutputFailed(error) => write!(f, "standard output: {error}"),
+            Line::OutputFailed(error) => write!(f, "standard output: {}", Reason(error)),
             Line::Report(report) => write!(f, "{report}"),
             Line::Dropped(count) => write!(f, "lines dropped: {count}"),
             Line::Last => Ok(()),

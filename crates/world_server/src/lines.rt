@@ -1,12 +1,15 @@
 //! The lines of a running server.
 ghost use Rattle.std.specs.Prelude.{◌≡◌, None, Some, IfSome};
 
+use crate::acked::AckedOut;
 use crate::kept::KeptFile;
 use crate::line::{Failure, Line};
 use crate::place::Place;
 use crate::printer::Printer;
-use crate::standing::{Standing, have_passed};
+use crate::room::{Room, is_left_for_room};
+use crate::standing::{Standing, is_overdue, passed_since};
 use client_service::{Door, Pulse, Unserved};
+use crossbeam_channel::Sender;
 use disk_model::FourFiles;
 use file_disk::{FileDisk, Pace};
 use std::alloc::{AllocError, Global};
@@ -14,7 +17,7 @@ use std::io;
 use std::net::Net;
 use std::sync::{Arc, Wait};
 use std::time::{Clock, Instant};
-use worker_threads::{TickWatch, Watch};
+use worker_threads::{Acked, TickWatch, Watch};
 use workers::{ImageWriter, Log};
 use world_folder::WorldFile;
 
@@ -31,6 +34,8 @@ pub struct Lines<R: Wait + Clock + Net + Copy> {
     pub errors: Printer,
     pub standing: Arc<Standing, Global>,
     pub exits_when_log_down: bool,
+    /// True if the server is left once its images are down and little room is left for ticks.
+    pub exits_when_images_down: bool,
     /// For how many seconds it waits for clients once no more can come; without a number for ever.
     pub exit_when_closed: Option<u32>,
     /// The time since which no more can come, in the thread that accepts them.
@@ -39,6 +44,13 @@ pub struct Lines<R: Wait + Clock + Net + Copy> {
     pub pulse: Option<Arc<Pulse, Global>>,
     /// The pace of the image files.
     pub pace: Pace,
+    /// The room for ticks, in the thread of the mutator.
+    pub room: Room,
+    /// Wakes the thread that looks at the server.
+    pub wake: Sender<()>,
+    /// Takes the acknowledged ticks, in the thread of the log writer, if the world has a guard. A
+    /// clone has none.
+    pub acked: Option<AckedOut>,
 }
 
 impl<R: Wait + Clock + Net + Copy> Clone for Lines<R> {
@@ -51,6 +63,7 @@ impl<R: Wait + Clock + Net + Copy> Clone for Lines<R> {
             errors: self.errors.clone()?,
             standing: self.standing.clone()?,
             exits_when_log_down: self.exits_when_log_down,
+            exits_when_images_down: self.exits_when_images_down,
             exit_when_closed: self.exit_when_closed,
             closed_at: self.closed_at,
             pulse: match &self.pulse {
@@ -58,6 +71,9 @@ impl<R: Wait + Clock + Net + Copy> Clone for Lines<R> {
                 None => None,
             },
             pace: self.pace.clone()?,
+            room: self.room,
+            wake: self.wake.clone()?,
+            acked: None,
         })
     }
 }
@@ -66,31 +82,24 @@ impl<R: Wait + Clock + Net + Copy> Lines<R> {
     // Has the server left, which may wait for clients.
     fn leave(&self) {
         self.standing.leave();
-        self.place.wake(&self.rt);
+        self.wake();
     }
 
-    // True if the server has waited for its last clients for as long as it may.
-    fn is_overdue(&self) -> bool {
-        let (Some(seconds), Some(closed)) = (self.exit_when_closed, self.closed_at) else {
-            return false;
-        };
-        match closed.elapsed(&self.rt) {
-            Ok(passed) => have_passed(seconds, passed),
-            Err(_) => false,
+    // Has the server looked at. A thread that is awake already needs no second call.
+    fn wake(&self) {
+        let _ = self.wake.try_send(&self.rt, ());
+    }
+
+    // Says how much room is left for ticks, and has the server left if it may end by that.
+    fn look_at_room(&mut self, since: u64) {
+        let images_down = self.standing.are_images_down();
+        if let Some(left) = self.room.used(since, images_down) {
+            self.note(Line::RoomLeft(left));
         }
-    }
-
-    // Says of each file once that it has no name any more.
-    fn look_at_names(&self) {
-        self.look_at_name(WorldFile::ImageA, &self.files.image_a);
-        self.look_at_name(WorldFile::ImageB, &self.files.image_b);
-        self.look_at_name(WorldFile::LogA, &self.files.log_a);
-        self.look_at_name(WorldFile::LogB, &self.files.log_b);
-    }
-
-    fn look_at_name(&self, file: WorldFile, kept: &KeptFile) {
-        if kept.is_newly_missed() {
-            self.note(Line::FileMissed(file));
+        if is_left_for_room(self.exits_when_images_down, images_down, since)
+            && !self.standing.is_left()
+        {
+            self.leave();
         }
     }
 
@@ -101,11 +110,12 @@ impl<R: Wait + Clock + Net + Copy> Lines<R> {
 }
 
 impl<R: Wait + Clock + Net + Copy> TickWatch for Lines<R> {
-    fn ticks_ended(&mut self, ticks: u64) {
+    fn ticks_ended(&mut self, ticks: u64, since: u64) {
         self.pace.ticks_ended(ticks);
         if let Some(pulse) = &self.pulse {
-            pulse.ticks_ended(ticks);
+            pulse.ticks_ended(ticks, since);
         }
+        self.look_at_room(since);
     }
 }
 
@@ -114,8 +124,8 @@ impl<R: Wait + Clock + Net + Copy> Watch<FileDisk> for Lines<R> {
         if let Some(pulse) = &self.pulse {
             pulse.image_opened(tick);
         }
+        self.standing.image_opened(tick);
         self.note(Line::ImageOpened(tick));
-        self.look_at_names();
     }
 
     fn images_down(&mut self, images: &ImageWriter<FileDisk>) {
@@ -124,6 +134,13 @@ impl<R: Wait + Clock + Net + Copy> Watch<FileDisk> for Lines<R> {
         let a = (WorldFile::ImageA, images.image_a.failure());
         let b = (WorldFile::ImageB, images.image_b.failure());
         self.note(Line::ImagesDown(first_failure(a, b)));
+        self.wake();
+    }
+
+    fn ticks_acked(&mut self, acked: Acked) {
+        if let Some(out) = &mut self.acked {
+            out.raise(acked);
+        }
     }
 
     fn log_down(&mut self, acked: u64, log: &Log<FileDisk>) {
@@ -167,7 +184,8 @@ impl<R: Wait + Clock + Net + Copy> Door for Lines<R> {
     }
 
     fn is_left(&self) -> bool {
-        self.standing.is_left() || self.is_overdue()
+        let passed = passed_since(&self.rt, self.closed_at);
+        self.standing.is_left() || is_overdue(self.exit_when_closed, passed)
     }
 
     fn pulse(&self) -> Option<Arc<Pulse, Global>> {

@@ -1,9 +1,11 @@
 //! The figures of a running server, printed again and again.
-ghost use Rattle.std.specs.Prelude.{◌≡◌, ◌≤◌, ◌<◌, ◌-◌, ◌/◌, Some};
-ghost use Rattle.world_server.specs.Lines.{report_text};
+ghost use Rattle.std.specs.Prelude.{◌≡◌, ◌≤◌, ◌<◌, ◌-◌, ◌*◌, ◌/◌, Some};
+ghost use Rattle.world_server.specs.Lines.{left_text, report_text};
+ghost use Rattle.world_server.specs.Room.{room_after, seconds_left};
 
 use crate::line::Line;
 use crate::printer::Printer;
+use crate::room::room_after;
 use client_service::{Counts, Pulse};
 use crossbeam_channel::{Sender, bounded};
 use std::alloc::Global;
@@ -19,17 +21,50 @@ pub struct Report {
     pub counts: Counts,
     /// How many batches were answered by a tick each second.
     pub rate: u64,
+    /// In how many seconds no more tick can end, if play goes on as it did since the last look and
+    /// no image opens. Without a tick since then it isn't known.
+    pub seconds_left: Option<u64>,
 }
 
 impl fmt::Display for Report {
     ghost output = { λ report. Some (report_text report) };
 
     fn fmt<W: fmt::Write>(&self, f: &mut fmt::Formatter<W>) -> fmt::Result {
-        let Report { counts, rate } = self;
+        let Report {
+            counts,
+            rate,
+            seconds_left,
+        } = self;
         let (tick, acked, image) = (counts.tick, counts.acked, counts.image);
         let (sessions, waiting) = (counts.sessions, counts.waiting);
         write!(f, "tick {tick} acked {acked} image {image}")?;
-        write!(f, " sessions {sessions} batches/s {rate} waiting {waiting}")
+        let room = RoomReport {
+            since: counts.since,
+            seconds_left: *seconds_left,
+        };
+        write!(
+            f,
+            " sessions {sessions} batches/s {rate} waiting {waiting}{room}"
+        )
+    }
+}
+
+// The room for ticks after so many, and for how many seconds it lasts, if that is known.
+#[derive(Clone, Copy)]
+struct RoomReport {
+    since: u64,
+    seconds_left: Option<u64>,
+}
+
+impl fmt::Display for RoomReport {
+    ghost output = { λ room. Some (left_text room.since room.seconds_left) };
+
+    fn fmt<W: fmt::Write>(&self, f: &mut fmt::Formatter<W>) -> fmt::Result {
+        let room = room_after(self.since);
+        match self.seconds_left {
+            Some(seconds) => write!(f, " room {room} lasts {seconds}"),
+            None => write!(f, " room {room}"),
+        }
     }
 }
 
@@ -73,10 +108,26 @@ fn report_on<R: Wait + Clock>(rt: &R, seconds: u32, pulse: &Pulse, errors: &Prin
 fn report_of(before: Counts, now: Counts, seconds: u32) -> Report
     ensures counts { result.counts ≡ now }
     ensures rate { 0 < seconds → result.rate ≡ (now.answered - before.answered) / seconds }
+    ensures left { result.seconds_left
+        ≡ seconds_left (now.tick - before.tick) seconds (room_after now.since) }
 {
     let answered = now.answered.saturating_sub(before.answered);
+    let ticks = now.tick.saturating_sub(before.tick);
     Report {
         counts: now,
         rate: answered / u64::from(seconds.max(1)),
+        seconds_left: seconds_left(ticks, seconds, room_after(now.since)),
+    }
+}
+
+// In how many seconds so much room is used up, if so many ticks ended in so many seconds.
+fn seconds_left(ticks: u64, seconds: u32, room: u64) -> Option<u64>
+    requires { room ≤ 65536 }
+    ensures { result ≡ seconds_left ticks seconds room }
+{
+    if ticks == 0 {
+        None
+    } else {
+        Some(room * u64::from(seconds) / ticks)
     }
 }

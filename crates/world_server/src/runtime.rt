@@ -1,11 +1,31 @@
 //! What a server needs of the system besides its network.
-use std::fs::{File, Files};
-use std::sync::Wait;
+use std::fs::{self, File, Files};
+use std::io;
 use std::thread::Threads;
-use std::time::Clock;
+use world_folder::{Entry, Guard, put_guard};
 
-/// The handles that a server needs beside `Net`. The types of that one have to stand in the bounds
-/// of what a program calls.
-pub trait Runtime: Threads + Wait + Clock + Files<File = File> + Print + Eprint + AllocGlobal {}
+/// The handles that a server needs beside those that its threads get. The kit wants these in the
+/// bounds of each function, from the program's first on.
+pub trait Runtime: Threads + Files<File = File> + Print + Eprint + AllocGlobal {}
 
-impl<R: Threads + Wait + Clock + Files<File = File> + Print + Eprint + AllocGlobal> Runtime for R {}
+impl<R: Threads + Files<File = File> + Print + Eprint + AllocGlobal> Runtime for R {}
+
+/// The calls on files of the thread that looks at a server. The kit proves no thread that has
+/// `Files`.
+pub trait LookUp {
+    /// The file to which a path leads.
+    fn entry_at(&self, path: &str) -> io::Result<Entry>;
+
+    /// Puts a guard into the folder at a path, whole and durably.
+    fn put_guard(&self, folder: &str, guard: &Guard) -> io::Result<()>;
+}
+
+impl LookUp for HostRuntime {
+    fn entry_at(&self, path: &str) -> io::Result<Entry> {
+        Ok(Entry::of(&fs::metadata(self, path)?))
+    }
+
+    fn put_guard(&self, folder: &str, guard: &Guard) -> io::Result<()> {
+        put_guard(self, folder, guard)
+    }
+}

@@ -1,11 +1,12 @@
 //! A world that a server serves, from its four files as they were to the files as they are left.
 ghost use Rattle.std.specs.Prelude.{◌≡◌, ◌≤◌, ◌++◌, ◌∷◌, [], Option, None, IsTrue, IfOk};
-ghost use Rattle.std.specs.Prelude.{IfErr, MatchResult};
+ghost use Rattle.std.specs.Prelude.{IfErr, IfSome, MatchResult};
 ghost use Rattle.workers.specs.AskOrder.{PlaysInTurn};
 ghost use Rattle.worker_steps.specs.Begun.{IsWhole};
 ghost use Rattle.worker_steps.specs.Stopped.{StaysSound};
 ghost use Rattle.worker_threads.specs.Opening.{files_of};
 ghost use Rattle.world_folder.specs.declared.lost.Finding.{Finding as Named};
+ghost use Rattle.world_folder.specs.declared.lost.OnLoss.{OnLoss};
 ghost use Rattle.world_folder.specs.Lost.{JudgedIn, lost_in};
 ghost use Rattle.world_server.specs.Serving.{EndsServing, StopsWith, left_ending};
 ghost use Rattle.world_server.specs.Served.{recovered_line, finding_lines, stopped_line};
@@ -30,7 +31,7 @@ use worker_threads::{Seats, Watch, start_world};
 use workers::{ImageWriter, Log, Open};
 use world_actions::Refusal;
 use world_folder::{
-    Checked, Ending, Finding, NotRecovered, OnLoss, ServerEnding, WorldReport, recover_checked,
+    Checked, Checks, Ending, Finding, NotRecovered, ServerEnding, WorldReport, recover_checked,
 };
 
 /// A world that was served, once its server has stopped.
@@ -54,12 +55,12 @@ pub enum WorldFailure<D: Disk + Drop> {
     NotRun(WorldReport, Ending),
 }
 
-/// Serves the world of four files. It recovers the world, names or refuses a loss, and prints which
-/// world it is. It runs its start, lets the clients in, and stops the workers after the last
-/// client. It then prints how far play came. On disks that keep to the disk model the files are
-/// sound throughout. A refusal leaves them with the same world. A server leaves them with all that
-/// was acknowledged. Each session's batches are taken in its order, none left out, and played at
-/// most once.
+/// Serves the world of four files. It recovers the world, names or refuses what the checks find,
+/// and prints which world it is. It runs its start, lets the clients in, and stops the workers
+/// after the last client. It then prints how far play came. On disks that keep to the disk model
+/// the files are sound throughout. A refusal leaves them with the same world. A server leaves them
+/// with all that was acknowledged. Each session's batches are taken in its order, none left out,
+/// and played at most once.
 pub fn serve_world<
     R: Threads + Wait + Clock + Copy + Send + 'static,
     M: Seats + Send + 'static,
@@ -73,12 +74,14 @@ pub fn serve_world<
     files: FourFiles<D>,
     every: Every,
     admission: Admission,
-    on_loss: OnLoss,
+    checks: Checks,
 ) -> Result<Served<M, D>, WorldFailure<D>>
     ensures recovered { IsTrue D.honest → IfOk result (λ served.
         RecoversTo D.content files served.stopped.workers.mutator.opening served.recovered) }
-    ensures whole { IsTrue D.honest → on_loss ≡ OnLoss.Refuse → IfOk result (λ served.
-        lost_in D.content on_loss served.recovered.tick served.recovered.from files ≡ None) }
+    ensures whole { IsTrue D.honest → checks.lost ≡ OnLoss.Refuse → IfOk result (λ served.
+        lost_in D.content checks.lost served.recovered.tick served.recovered.from files ≡ None) }
+    ensures newest { checks.older ≡ OnLoss.Refuse → IfOk result (λ served.
+        IfSome checks.guard (λ guard. guard.acked ≤ served.recovered.tick)) }
     ensures sound { IsTrue D.honest → IfOk result (λ served.
         GoesOnSound D.content D.may_leave files served.recovered.tick served.stopped.workers.mutator
         served.stopped.workers.checkpointer served.stopped.workers.log_writer) }
@@ -86,7 +89,7 @@ pub fn serve_world<
         PlaysInTurn served.stopped.workers.mutator.asks.taken
         served.stopped.workers.mutator.to.items) }
     ensures left { IsTrue D.honest → IfErr result (LeavesWorld D.content D.may_leave files) }
-    ensures reason { IfErr result (FailsFor D.content D.honest on_loss files) }
+    ensures reason { IfErr result (FailsFor D.content D.honest checks files) }
     ensures printed { IsTrue F.known → MatchResult result
         (λ served. F.printed front.new ≡ F.printed front.old ++ recovered_line served.recovered
         ∷ stopped_line served.stopped.workers.mutator served.stopped.workers.checkpointer
@@ -94,14 +97,14 @@ pub fn serve_world<
         (λ failure. F.printed front.new ≡ F.printed front.old ++ failure_lines failure) }
     ensures judged { IsTrue F.known → IsTrue D.honest
         → IfOk result (λ served. (finding : Option Named)
-        × JudgedIn D.content on_loss served.recovered.tick served.recovered.from files finding
+        × JudgedIn D.content checks served.recovered.tick served.recovered.from files finding
         × (F.noted front.new ≡ F.noted front.old ++ finding_lines finding)) }
     ensures ends { IfErr result EndsAsFailed }
     ensures all { IfOk result (λ served. served.stopped.accepted.closed ≡ Closed.AllCame
         → served.stopped.accepted.connections ≡ admission.clients) }
     ensures every { IfOk result (λ served. served.stopped.workers.mutator.every ≡ every.0) }
 {
-    let (recovered, opened) = open_files::<M, D, W, F>(alloc, front, files, on_loss)?;
+    let (recovered, opened) = open_files::<M, D, W, F>(alloc, front, files, checks)?;
     serve_opened(rt, alloc, front, recovered, opened, every, admission)
 }
 
@@ -110,33 +113,35 @@ fn open_files<M: Seats, D: Disk + Drop, W, F: Front<M, D, W>>(
     alloc: Global,
     front: &mut F,
     files: FourFiles<D>,
-    on_loss: OnLoss,
+    checks: Checks,
 ) -> Result<(WorldReport, Opened<M, D>), WorldFailure<D>>
     ensures begins { IfOk result (λ made.
         IsWhole D.honest D.content made.1.front made.1.back made.1.images made.1.log made.1.ended) }
     ensures tick { IfOk result (λ made. made.1.ended ≡ made.0.tick) }
     ensures recovered { IsTrue D.honest
         → IfOk result (λ made. RecoversTo D.content files made.1.front.live made.0) }
-    ensures whole { IsTrue D.honest → on_loss ≡ OnLoss.Refuse
-        → IfOk result (λ made. lost_in D.content on_loss made.0.tick made.0.from files ≡ None) }
+    ensures whole { IsTrue D.honest → checks.lost ≡ OnLoss.Refuse
+        → IfOk result (λ made. lost_in D.content checks.lost made.0.tick made.0.from files ≡ None) }
+    ensures newest { checks.older ≡ OnLoss.Refuse → IfOk result (λ made.
+        IfSome checks.guard (λ guard. guard.acked ≤ made.0.tick)) }
     ensures stands { IsTrue D.honest
         → IfOk result (λ made. StandsOpened D.content D.may_leave files made.0.tick
         made.1.front.live made.1.images made.1.log) }
     ensures keeps { IsTrue D.honest → IfOk result (λ made.
         KeepsWorld D.content D.may_leave files made.0.tick (files_of made.1.images made.1.log)) }
     ensures left { IsTrue D.honest → IfErr result (LeavesWorld D.content D.may_leave files) }
-    ensures reason { IfErr result (FailsFor D.content D.honest on_loss files) }
+    ensures reason { IfErr result (FailsFor D.content D.honest checks files) }
     ensures printed { IsTrue F.known → MatchResult result
         (λ made. F.printed front.new ≡ F.printed front.old ++ recovered_line made.0 ∷ [])
         (λ failure. F.printed front.new ≡ F.printed front.old ++ failure_lines failure) }
     ensures judged { IsTrue F.known → IsTrue D.honest
         → IfOk result (λ made. (finding : Option Named)
-        × JudgedIn D.content on_loss made.0.tick made.0.from files finding
+        × JudgedIn D.content checks made.0.tick made.0.from files finding
         × (F.noted front.new ≡ F.noted front.old ++ finding_lines finding)) }
     ensures ends { IfErr result EndsAsFailed }
 {
     let mut files = files;
-    match recover_checked::<PlainCopy, D>(alloc, &mut files, on_loss) {
+    match recover_checked::<PlainCopy, D>(alloc, &mut files, checks) {
         Ok(found) => {
             let Checked { begun, finding } = found;
             let recovered = WorldReport {

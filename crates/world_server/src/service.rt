@@ -1,9 +1,9 @@
-ghost use Rattle.std.specs.Prelude.{◌≡◌, IfSome, IfNone};
+ghost use Rattle.std.specs.Prelude.{◌≡◌, true, false, IfSome, IfNone};
 
 use crate::socket::SocketMode;
 use client_service::Admission;
 use shared_capture::Kind;
-use world_folder::OnLoss;
+use world_folder::{Checks, Guard, OnLoss};
 
 /// After how many ticks a round is due.
 #[derive(Clone, Copy, Debug, PartialEq, Eq)]
@@ -43,7 +43,16 @@ pub struct Service<'a> {
     pub exit_when_closed: Option<u32>,
     /// True if the program ends as soon as its log is down.
     pub exits_when_log_down: bool,
+    /// After how many seconds without images the program ends. It ends before that if no more room
+    /// than 8,192 ticks is left. Without a number it goes on.
+    pub exit_when_images_down: Option<u32>,
+    /// True if the program ends once one of its files was removed or replaced.
+    pub exits_when_replaced: bool,
     pub on_loss: OnLoss,
+    /// True if the world gets a guard. One that has a guard keeps it either way.
+    pub guards: bool,
+    /// True if a world that is older than its guard is served.
+    pub accepts_loss: bool,
 }
 
 impl Service<'_> {
@@ -55,6 +64,25 @@ impl Service<'_> {
         match self.every {
             Some(every) => every,
             None => EVERY_BY_DEFAULT,
+        }
+    }
+
+    /// The checks of its files, for a world with this guard.
+    pub fn checks(&self, guard: Option<Guard>) -> Checks
+        ensures guard { result.guard ≡ guard }
+        ensures lost { result.lost ≡ self.now.on_loss }
+        ensures refused { self.now.accepts_loss ≡ false → result.older ≡ OnLoss.Refuse }
+        ensures accepted { self.now.accepts_loss ≡ true → result.older ≡ OnLoss.Warn }
+    {
+        let older = if self.accepts_loss {
+            OnLoss::Warn
+        } else {
+            OnLoss::Refuse
+        };
+        Checks {
+            lost: self.on_loss,
+            older,
+            guard,
         }
     }
 

@@ -4,26 +4,36 @@ ghost use Rattle.world_server.specs.Serving.{EndsServing, StopsWith};
 ghost use Rattle.world_server.specs.Served.{EndsAsFailed, EndsBy};
 
 use crate::lines::Lines;
-use crate::runtime::Runtime;
+use crate::runtime::{LookUp, Runtime};
 use crate::served::{Served, WorldFailure, serve_world};
 use crate::service::Service;
 use crate::system_front::SystemFront;
 use disk_model::FourFiles;
-use file_disk::{FileDisk, Pace};
+use file_disk::{FileDisk, Pace, Valve};
 use file_readers::read_files;
 use shared_capture::{Kind, Method, Pong, Zig};
 use std::alloc::Global;
 use std::net::{Net, TcpListener, TcpStream};
+use std::sync::Wait;
+use std::time::Clock;
 use worker_threads::Seats;
 use world_actions::Refusal;
-use world_folder::{Ending, Fault, NotRecovered, OnLoss, failure_of, open_existing, stands_in};
+use world_folder::{
+    Checks, Ending, Fault, NotRecovered, OnLoss, failure_of, open_existing, read_guard, stands_in,
+};
 
 /// Serves the world in a folder to so many clients. It prints which world was recovered, where it
 /// listens, and how far play came.
-pub fn serve<R: Runtime + Net<Listener = TcpListener, Stream = TcpStream> + Copy + Send + 'static>(
-    rt: &R,
-    service: &Service<'_>,
-) -> Ending
+pub fn serve<
+    R: Runtime
+        + Wait
+        + Clock
+        + LookUp
+        + Net<Listener = TcpListener, Stream = TcpStream>
+        + Copy
+        + Send
+        + 'static,
+>(rt: &R, service: &Service<'_>) -> Ending
     ensures ends { EndsServing result }
 {
     let served = match service.method {
@@ -38,7 +48,14 @@ pub fn serve<R: Runtime + Net<Listener = TcpListener, Stream = TcpStream> + Copy
 
 // Serves by this method, which has to be the one that is asked for.
 fn serve_by<
-    R: Runtime + Net<Listener = TcpListener, Stream = TcpStream> + Copy + Send + 'static,
+    R: Runtime
+        + Wait
+        + Clock
+        + LookUp
+        + Net<Listener = TcpListener, Stream = TcpStream>
+        + Copy
+        + Send
+        + 'static,
     M: Seats + Send + 'static,
 >(rt: &R, service: &Service<'_>) -> Result<Ending, Ending>
     requires { service.now.method ≡ M.KIND }
@@ -46,9 +63,15 @@ fn serve_by<
     ensures err { IfErr result IsFault }
 {
     let mut files = open_existing(rt, service.folder)?;
+    let guard = read_guard(rt, service.folder)?;
     let pace = pace_images(rt.alloc(), &mut files)?;
-    let mut front = SystemFront::start(rt, service, pace)?;
-    let (every, admission, on_loss) = (service.due_after(), service.admission(), service.on_loss);
+    let valve = valve_logs(rt.alloc(), &mut files)?;
+    let mut front = SystemFront::start(rt, service, guard, pace, valve)?;
+    let (every, admission, checks) = (
+        service.due_after(),
+        service.admission(),
+        service.checks(guard),
+    );
     let served = serve_world::<R, M, FileDisk, Lines<R>, SystemFront<'_, R>>(
         rt,
         rt.alloc(),
@@ -56,7 +79,7 @@ fn serve_by<
         files,
         every,
         admission,
-        on_loss,
+        checks,
     );
     let ending = ending_of(rt.alloc(), service.folder, served);
     Ok(front.finish(ending))
@@ -71,6 +94,17 @@ fn pace_images(alloc: Global, files: &mut FourFiles<FileDisk>) -> Result<Pace, E
     files.image_a.pace(pace.clone()?);
     files.image_b.pace(pace.clone()?);
     Ok(pace)
+}
+
+// Puts both log files behind a valve, and returns it.
+fn valve_logs(alloc: Global, files: &mut FourFiles<FileDisk>) -> Result<Valve, Ending>
+    ensures same { files.new ≡ files.old }
+    ensures fault { IfErr result IsFault }
+{
+    let valve = Valve::new(alloc)?;
+    files.log_a.stop_by(valve.clone()?);
+    files.log_b.stop_by(valve.clone()?);
+    Ok(valve)
 }
 
 // How the program ends after its world was served, or wasn't.
@@ -131,7 +165,7 @@ fn not_opened(alloc: Global, folder: &str, files: FourFiles<FileDisk>, refusal: 
         Refusal::NoImage | Refusal::BadImage | Refusal::BadLog => match read_files(
             alloc, &mut files,
         ) {
-            Ok(bytes) => match stands_in(alloc, &bytes, OnLoss::Warn) {
+            Ok(bytes) => match stands_in(alloc, &bytes, Checks::of(OnLoss::Warn)) {
                 Ok(_) => Ending::Fault(refusal),
                 Err(fault) => Ending::NoWorld(fault),
             },

@@ -1,11 +1,10 @@
 //! The state of a running server that its threads share: what is down, and whether it
 //! is to be left.
-ghost use Rattle.std.specs.Prelude.{◌≡◌, ◌↔◌, ◌≤◌, ◌*◌, IsTrue};
-ghost use Rattle.std.specs.Duration.{as_nanos};
-ghost use Rattle.world_server.specs.Serving.{EndsServing, left_ending};
+ghost use Rattle.std.specs.Prelude.{◌≡◌, ◌↔◌, true, IsTrue};
+ghost use Rattle.world_server.specs.Serving.{EndsServing, left_ending, IsOverdue};
 
-use std::sync::atomic::{AtomicBool, Ordering};
-use std::time::Duration;
+use std::sync::atomic::{AtomicBool, AtomicU64, Ordering};
+use std::time::{Clock, Duration, Instant};
 use world_folder::{Ending, ServerEnding};
 
 /// What of a server is down.
@@ -23,16 +22,19 @@ pub struct Standing {
     images: AtomicBool,
     listener: AtomicBool,
     is_left: AtomicBool,
+    /// The tick of the newest image that was opened.
+    image: AtomicU64,
 }
 
 impl Standing {
-    /// All is well.
+    /// All is well, and no image was opened.
     pub fn new() -> Self {
         Standing {
             log: AtomicBool::new(false),
             images: AtomicBool::new(false),
             listener: AtomicBool::new(false),
             is_left: AtomicBool::new(false),
+            image: AtomicU64::new(0),
         }
     }
 
@@ -48,7 +50,19 @@ impl Standing {
         self.listener.store(true, Ordering::SeqCst);
     }
 
-    /// The server is to be left, since its log is down.
+    pub fn are_images_down(&self) -> bool {
+        self.images.load(Ordering::SeqCst)
+    }
+
+    pub fn image_opened(&self, tick: u64) {
+        self.image.store(tick, Ordering::SeqCst);
+    }
+
+    pub fn image(&self) -> u64 {
+        self.image.load(Ordering::SeqCst)
+    }
+
+    /// The server is to be left.
     pub fn leave(&self) {
         self.is_left.store(true, Ordering::SeqCst);
     }
@@ -60,7 +74,7 @@ impl Standing {
     pub fn losses(&self) -> Losses {
         Losses {
             log: self.log.load(Ordering::SeqCst),
-            images: self.images.load(Ordering::SeqCst),
+            images: self.are_images_down(),
             listener: self.listener.load(Ordering::SeqCst),
         }
     }
@@ -84,9 +98,24 @@ pub fn ending_of_left(lost: Losses) -> Ending
     Ending::Ran
 }
 
-/// True if so many seconds have passed.
-pub fn have_passed(seconds: u32, passed: Duration) -> bool
-    ensures { IsTrue result ↔ seconds * 1000000000 ≤ as_nanos passed }
+/// How much time has passed since then, if that time is known.
+pub fn passed_since<R: Clock>(rt: &R, since: Option<Instant>) -> Option<Duration> {
+    since?.elapsed(rt).ok()
+}
+
+/// True if so many seconds have passed. Without a number or a known time they never have.
+pub fn is_overdue(seconds: Option<u32>, passed: Option<Duration>) -> bool
+    ensures { IsTrue result ↔ IsOverdue seconds passed }
 {
-    passed >= Duration::from_secs(u64::from(seconds))
+    match (seconds, passed) {
+        (Some(seconds), Some(passed)) => passed >= Duration::from_secs(u64::from(seconds)),
+        _ => false,
+    }
+}
+
+/// True if a server is left for its images: they are down, for as long as they may be.
+pub fn is_left_for_images(images_down: bool, seconds: Option<u32>, passed: Option<Duration>) -> bool
+    ensures { IsTrue result ↔ ((images_down ≡ true) × IsOverdue seconds passed) }
+{
+    images_down && is_overdue(seconds, passed)
 }

@@ -3,35 +3,42 @@ ghost use Rattle.std.specs.Prelude.{◌≡◌, ◌≢◌, IfErr, IfOk, IfSome};
 ghost use Rattle.world_folder.specs.Ending.{IsFault};
 ghost use Rattle.world_server.specs.Serving.{EndsServing};
 
+use crate::acked::AckedOut;
 use crate::front::Front;
+use crate::guarding::{GuardKeeper, started_guard};
 use crate::kept::kept_files;
 use crate::line::Line;
 use crate::lines::Lines;
 use crate::place::Place;
 use crate::reporter::start_reporter;
-use crate::runtime::Runtime;
+use crate::room::Room;
+use crate::runtime::{LookUp, Runtime};
 use crate::service::{Address, Service};
 use crate::socket::listen_at;
 use crate::standing::{Losses, Standing};
 use crate::streams::{Streams, note_line, print_line};
+use crate::watchdog::{Watched, start_watchdog};
 use client_service::Pulse;
-use crossbeam_channel::Sender;
+use crossbeam_channel::{Receiver, Sender, bounded};
 use disk_model::Disk;
-use file_disk::{FileDisk, Pace};
-use shared_capture::Method;
+use file_disk::{FileDisk, Pace, Valve};
+use shared_capture::{Method, signal_pair};
 use std::alloc::Global;
 use std::fs::{File, Files};
 use std::io;
 use std::net::{Ipv4Addr, Net, SocketAddr, TcpListener, TcpStream};
 use std::sync::{Arc, Wait};
 use std::thread::Threads;
-use std::time::Clock;
+use std::time::{Clock, Duration};
 use transports::Listener;
 use worker_steps::Opened;
 use worker_threads::NotStarted;
 use workers::ImageWriter;
 use world_actions::Refusal;
-use world_folder::{Ending, NoPort, ServerEnding, opened};
+use world_folder::{Ending, Guard, NoPort, ServerEnding, opened, path_of};
+
+/// For how many seconds the end of the program waits for the last guard.
+const PATIENCE_SECONDS: u64 = 1;
 
 /// The streams of a server, and the place where it listens once its world is open.
 #[derive(Drop)]
@@ -44,25 +51,47 @@ pub struct SystemFront<'a, R: Wait + Clock + Net + Files + Copy> {
     standing: Arc<Standing, Global>,
     /// Takes the counts of the server, if its figures are printed.
     reports: Option<Sender<Arc<Pulse, Global>>>,
+    /// Takes the server for the thread that looks at it.
+    watchdog: Option<Sender<Watched>>,
+    /// The guard of the world as it was before.
+    guard: Option<Guard>,
+    /// Fails once the thread that writes the guard has ended.
+    guarded: Option<Receiver<()>>,
     place: Option<Arc<Place, Global>>,
     /// The pace of the image files.
     pace: Pace,
+    /// The valve of the log files.
+    valve: Valve,
 }
 
 impl<
     'a,
-    R: Runtime + Net<Listener = TcpListener, Stream = TcpStream> + Copy + Send + 'static,
+    R: Runtime
+        + Wait
+        + Clock
+        + LookUp
+        + Net<Listener = TcpListener, Stream = TcpStream>
+        + Copy
+        + Send
+        + 'static,
 > SystemFront<'a, R> {
-    /// Starts the threads of the streams. The image files are paced by the ticks of the world.
-    pub fn start(rt: &R, service: &Service<'a>, pace: Pace) -> Result<Self, Ending>
+    /// Starts the threads of the streams. The image files are paced by the ticks of the world, the
+    /// log files are behind the valve, and the world has this guard.
+    pub fn start(
+        rt: &R,
+        service: &Service<'a>,
+        guard: Option<Guard>,
+        pace: Pace,
+        valve: Valve,
+    ) -> Result<Self, Ending>
         ensures { IfErr result IsFault }
     {
         let Ok(standing) = Arc::new(rt.alloc(), Standing::new()) else {
             return Err(Ending::Fault(Refusal::NoMemory));
         };
-        let (streams, reports) = match started(rt, service) {
-            Ok((streams, reports)) => (Some(streams), reports),
-            Err(NotStarted::NoThread) => (None, None),
+        let (streams, reports, watchdog) = match started(rt, service) {
+            Ok((streams, reports, watchdog)) => (Some(streams), reports, Some(watchdog)),
+            Err(NotStarted::NoThread) => (None, None, None),
             Err(NotStarted::NoMemory) => return Err(Ending::Fault(Refusal::NoMemory)),
         };
         Ok(SystemFront {
@@ -71,14 +100,18 @@ impl<
             streams,
             standing,
             reports,
+            watchdog,
+            guard,
+            guarded: None,
             place: None,
             pace,
+            valve,
         })
     }
 
-    /// Stops listening, waits until the lines have left, or for some seconds if a stream isn't
-    /// read, and ends the program so. A server that ended well ends with a fault if its output
-    /// couldn't be printed.
+    /// Stops listening, and waits a second at most for the last guard. It waits until the lines
+    /// have left, or for some seconds if a stream isn't read, and ends the program so. A server
+    /// that ended well ends with a fault if its output couldn't be printed.
     pub fn finish(self, ending: Ending) -> Ending
         ensures ends { EndsServing ending → EndsServing result }
         ensures other { ending ≢ Ending.Ran → result ≡ ending }
@@ -90,11 +123,18 @@ impl<
             streams,
             standing: _,
             reports: _,
+            watchdog: _,
+            guard: _,
+            guarded,
             place,
             pace: _,
+            valve: _,
         } = self;
         if let Some(place) = place {
             place.leave(&rt);
+        }
+        if let Some(guarded) = guarded {
+            let _ = guarded.recv_timeout(&rt, Duration::from_secs(PATIENCE_SECONDS));
         }
         match streams {
             Some(streams) => streams.finish(&rt, ending),
@@ -105,7 +145,14 @@ impl<
 
 impl<
     'a,
-    R: Runtime + Net<Listener = TcpListener, Stream = TcpStream> + Copy + Send + 'static,
+    R: Runtime
+        + Wait
+        + Clock
+        + LookUp
+        + Net<Listener = TcpListener, Stream = TcpStream>
+        + Copy
+        + Send
+        + 'static,
     M: Method,
 > Front<M, FileDisk, Lines<R>> for SystemFront<'a, R> {
     ghost use Rattle.std.specs.Prelude.{false, []};
@@ -125,8 +172,9 @@ impl<
     }
 
     fn open(&mut self, opened: &Opened<M, FileDisk>) -> Result<(Listener, Lines<R>), Ending> {
-        let (listener, place, lines) = let_in(self, opened)?;
+        let (listener, place, lines, guarded) = let_in(self, opened)?;
         self.place = Some(place);
+        self.guarded = guarded;
         Ok((listener, lines))
     }
 
@@ -135,12 +183,13 @@ impl<
     }
 }
 
-type LetIn<R> = (Listener, Arc<Place, Global>, Lines<R>);
+type LetIn<R> = (Listener, Arc<Place, Global>, Lines<R>, Option<Receiver<()>>);
 
 // Lets the clients of an open world in, if there are threads for the lines of its server.
 fn let_in<
     R: Wait
         + Clock
+        + LookUp
         + Net<Listener = TcpListener, Stream = TcpStream>
         + Files<File = File>
         + AllocGlobal
@@ -154,11 +203,11 @@ fn let_in<
     };
     let (listener, place) = listen(&front.rt, front.service.address)?;
     match lines_of(front, streams, place.clone()?, world) {
-        Ok(lines) => {
+        Ok((lines, guarded)) => {
             if front.service.every.is_none() {
                 streams.errors.print(&front.rt, Line::ManyImages);
             }
-            Ok((listener, place, lines))
+            Ok((listener, place, lines, guarded))
         }
         Err(ending) => {
             place.leave(&front.rt);
@@ -167,13 +216,13 @@ fn let_in<
     }
 }
 
-// The lines of the server of an open world.
-fn lines_of<R: Wait + Clock + Net + Files + AllocGlobal + Copy, M: Method>(
+// The lines of the server of an open world. A thread looks at it from now on.
+fn lines_of<R: Wait + Clock + LookUp + Net + Files<File = File> + AllocGlobal + Copy, M: Method>(
     front: &SystemFront<'_, R>,
     streams: &Streams,
     place: Arc<Place, Global>,
     world: &Opened<M, FileDisk>,
-) -> Result<Lines<R>, Ending>
+) -> Result<(Lines<R>, Option<Receiver<()>>), Ending>
     ensures { IfErr result IsFault }
 {
     let alloc = front.rt.alloc();
@@ -182,19 +231,90 @@ fn lines_of<R: Wait + Clock + Net + Files + AllocGlobal + Copy, M: Method>(
     let Ok(files) = Arc::new(alloc, files) else {
         return Err(Ending::Fault(Refusal::NoMemory));
     };
-    Ok(Lines {
+    let (wake, woken) = bounded(alloc, 1)?;
+    let (done, guarded) = bounded(alloc, 1)?;
+    let (acked, guard) = guard_for(front, streams, world)?;
+    let service = &front.service;
+    let is_guarded = guard.is_some();
+    if let Some(watchdog) = &front.watchdog {
+        let watched = Watched {
+            place: place.clone()?,
+            files: files.clone()?,
+            folder: File::open(&front.rt, service.folder).ok(),
+            errors: streams.errors.clone()?,
+            standing: front.standing.clone()?,
+            exit_when_images_down: service.exit_when_images_down,
+            valve: if service.exits_when_replaced {
+                Some(front.valve.clone()?)
+            } else {
+                None
+            },
+            down_since: None,
+            woken,
+            guard,
+            done,
+        };
+        let _ = watchdog.try_send(&front.rt, watched);
+    }
+    let lines = Lines {
         rt: front.rt,
         place,
         files,
         output: streams.output.clone()?,
         errors: streams.errors.clone()?,
         standing: front.standing.clone()?,
-        exits_when_log_down: front.service.exits_when_log_down,
-        exit_when_closed: front.service.exit_when_closed,
+        exits_when_log_down: service.exits_when_log_down,
+        exits_when_images_down: service.exit_when_images_down.is_some(),
+        exit_when_closed: service.exit_when_closed,
         closed_at: None,
         pulse,
         pace: front.pace.clone()?,
-    })
+        room: Room::new(),
+        wake,
+        acked,
+    };
+    let guarded = if is_guarded { Some(guarded) } else { None };
+    Ok((lines, guarded))
+}
+
+type Guarded = (Option<AckedOut>, Option<GuardKeeper>);
+
+// The keeper of the guard of an open world, and the word by which it knows the acknowledged ticks.
+// The guard of the start is written. A world that has no guard gets one if that is asked for.
+fn guard_for<R: Wait + Clock + LookUp + Net + Files<File = File> + AllocGlobal + Copy, M: Method>(
+    front: &SystemFront<'_, R>,
+    streams: &Streams,
+    world: &Opened<M, FileDisk>,
+) -> Result<Guarded, Ending>
+    ensures { IfErr result IsFault }
+{
+    let (rt, service) = (&front.rt, &front.service);
+    if front.guard.is_none() && !service.guards {
+        return Ok((None, None));
+    }
+    let tick = world.ended;
+    if let Some(guard) = front.guard {
+        if guard.acked > tick {
+            streams.errors.print(rt, Line::LossAccepted(tick));
+        }
+    }
+    let guard = started_guard(rt, front.guard, tick, newest_image(&world.images));
+    let answer = rt.put_guard(service.folder, &guard);
+    let failed = answer.is_err();
+    if let Err(error) = answer {
+        streams.errors.print(rt, Line::GuardFailed(error));
+    }
+    let Ok((out, acked)) = signal_pair(rt.alloc()) else {
+        return Err(Ending::Fault(Refusal::NoMemory));
+    };
+    let keeper = GuardKeeper {
+        folder: path_of(rt.alloc(), service.folder, "")?,
+        written: guard,
+        acked,
+        tried_at: None,
+        failed,
+    };
+    Ok((Some(AckedOut::new(out, tick)), Some(keeper)))
 }
 
 // The counts of a server that has opened this world.
@@ -231,19 +351,30 @@ fn pulse_for<R: Wait + AllocGlobal, M: Method>(
     Ok(Some(pulse))
 }
 
-type Started = (Streams, Option<Sender<Arc<Pulse, Global>>>);
+type Started = (Streams, Option<Sender<Arc<Pulse, Global>>>, Sender<Watched>);
 
-// Starts the threads of the streams, and the one that prints figures if they are asked for.
-fn started<R: Threads + Wait + Clock + Print + Eprint + AllocGlobal + Copy + Send + 'static>(
-    rt: &R,
-    service: &Service<'_>,
-) -> Result<Started, NotStarted> {
+// Starts the threads of the streams, the one that prints figures if they are asked for, and the one
+// that looks at the server.
+fn started<
+    R: Threads
+        + Wait
+        + Clock
+        + Net<Listener = TcpListener, Stream = TcpStream>
+        + LookUp
+        + Print
+        + Eprint
+        + AllocGlobal
+        + Copy
+        + Send
+        + 'static,
+>(rt: &R, service: &Service<'_>) -> Result<Started, NotStarted> {
     let streams = Streams::start(rt, service)?;
     let reports = match service.report {
         0 => None,
         seconds => Some(start_reporter(rt, rt.alloc(), seconds, streams.errors.clone()?)?),
     };
-    Ok((streams, reports))
+    let watchdog = start_watchdog(rt, rt.alloc())?;
+    Ok((streams, reports, watchdog))
 }
 
 // A listener at this address, and its place.

@@ -37,11 +37,11 @@ argument_added name rules_before groups rule old new arg has is adds =
     let globals = adds.globals in
     search rules
 
--- a command without a group gets one, and keeps its arguments
-pub group_added : (name : List ℕ) (rules_before : List Rule) (old new : Command) (group : ArgGroup)
-    → HasArguments name rules_before [] old → AddsGroup old group new → HasArguments name rules_before (group ∷ []) new
-group_added name rules_before old new group has adds =
-    let groups : groups_of new ≡ group ∷ [] = adds.1 ∙ ap (λ before. before ++ group ∷ []) has.2 in
+-- a command gets one more group, and keeps its arguments
+pub group_added : (name : List ℕ) (rules_before : List Rule) (groups : List ArgGroup) (old new : Command) (group : ArgGroup)
+    → HasArguments name rules_before groups old → AddsGroup old group new → HasArguments name rules_before (groups ++ group ∷ []) new
+group_added name rules_before groups old new group has adds =
+    let all : groups_of new ≡ groups ++ group ∷ [] = adds.1 ∙ ap (λ before. before ++ group ∷ []) has.2 in
     search rules
 
 -- a command gets one more subcommand

@@ -28,9 +28,12 @@ abbrev pub number_rule : (name : List ℕ) → (least most : ℕ) → (default :
 number_rule name least most default =
     record (value_rule name) { parser = Some (Signed (pos least) (pos most)); defaults = default }
 
--- the same, which its command needs
-abbrev pub needed_number_rule : (name : List ℕ) → (least most : ℕ) → Rule
-needed_number_rule name least most = record (number_rule name least most []) { required = true }
+-- the same, of which a use without a number has this one
+abbrev pub optional_number_rule : (name : List ℕ) → (least most : ℕ) → (missing : List ℕ) → Rule
+optional_number_rule name least most missing = record (number_rule name least most []) {
+  range = Some (record { start_inclusive = 0; end_inclusive = 1 });
+  missing = missing ∷ [];
+}
 
 -- an argument without a value
 abbrev pub flag_rule : (name : List ℕ) → Rule
@@ -59,6 +62,12 @@ IsChoiceOf name members group =
     (group.id.now ≡ name) × (map (λ member. member.now) group.args.items ≡ members)
     × (group.required ≡ true) × (group.multiple ≡ false)
 
+-- one or more of these arguments are wanted
+abbrev pub IsSomeOf : (name : List ℕ) → (members : List (List ℕ)) → ArgGroup → Type 0
+IsSomeOf name members group =
+    (group.id.now ≡ name) × (map (λ member. member.now) group.args.items ≡ members)
+    × (group.required ≡ true) × (group.multiple ≡ true)
+
 -- the command of this name has arguments of these rules, and these groups
 abbrev pub HasArguments : (name : List ℕ) → List Rule → List ArgGroup → Command → Type 0
 HasArguments name rules groups command =
@@ -71,6 +80,9 @@ folder_rule = needed_rule (codes "dir")
 abbrev pub losses_rule : Rule
 losses_rule = flag_rule (codes "refuse-losses")
 
+abbrev pub guard_rule : Rule
+guard_rule = flag_rule (codes "guard")
+
 -- the exit statuses, by one of their words
 abbrev pub statuses_rule : Option ValueParser → Rule
 statuses_rule words =
@@ -78,7 +90,8 @@ statuses_rule words =
 
 abbrev pub create_rules : List Rule
 create_rules =
-    folder_rule ∷ number_rule (codes "cells") 1 CELLS [] ∷ value_rule (codes "words") ∷ []
+    folder_rule ∷ number_rule (codes "cells") 1 CELLS [] ∷ value_rule (codes "words")
+    ∷ guard_rule ∷ []
 
 abbrev pub report_rules : List Rule
 report_rules = folder_rule ∷ losses_rule ∷ []
@@ -105,10 +118,13 @@ abbrev pub serve_rules : (methods modes : Option ValueParser) → List Rule
 serve_rules methods modes =
     folder_rule ∷ method_rule methods ∷ number_rule (codes "every") 1 65_536 []
     ∷ number_rule (codes "port") 0 65_535 [] ∷ value_rule (codes "socket") ∷ mode_rule modes
-    ∷ needed_number_rule (codes "clients") 1 100_000 ∷ number_rule (codes "idle") 1 86_400 []
-    ∷ number_rule (codes "report") 0 86_400 (codes "0" ∷ [])
+    ∷ number_rule (codes "clients") 1 100_000 [] ∷ flag_rule (codes "unlimited-clients")
+    ∷ number_rule (codes "idle") 1 86_400 [] ∷ number_rule (codes "report") 0 86_400 (codes "0" ∷ [])
     ∷ flag_rule (codes "exit-when-log-down")
-    ∷ number_rule (codes "exit-when-closed") 0 86_400 [] ∷ losses_rule ∷ []
+    ∷ number_rule (codes "exit-when-closed") 0 86_400 []
+    ∷ optional_number_rule (codes "exit-when-images-down") 0 86_400 (codes "60")
+    ∷ flag_rule (codes "exit-when-replaced") ∷ guard_rule ∷ flag_rule (codes "accept-loss")
+    ∷ losses_rule ∷ []
 
 abbrev pub method_words : List (List ℕ)
 method_words = method_word Zigzag ∷ method_word PingPong ∷ []
@@ -125,20 +141,22 @@ HasStatuses name rules groups command =
     (words : Option ValueParser) × TakesWords status_words words
     × HasArguments name (rules ++ statuses_rule words ∷ []) groups command
 
--- the command `create`, of which exactly one of the number of cells and the words is wanted
+-- the command `create`, of which the number of cells or the words are wanted, or both
 abbrev pub IsCreate : Command → Type 0
 IsCreate command =
-    (content : ArgGroup) × IsChoiceOf (codes "content") (codes "cells" ∷ codes "words" ∷ []) content
+    (content : ArgGroup) × IsSomeOf (codes "content") (codes "cells" ∷ codes "words" ∷ []) content
     × HasArguments (codes "create") create_rules (content ∷ []) command
 
--- the command `serve`, of which exactly one of the port and the socket is wanted
+-- the command `serve`, of which exactly one of the port and the socket is wanted, and of the number
+-- of clients and the flag in its place
 abbrev pub IsServe : Command → Type 0
 IsServe command =
     (methods modes : Option ValueParser) × TakesWords method_words methods
     × TakesWords mode_words modes
-    × ((address : ArgGroup)
+    × ((address admission : ArgGroup)
     × IsChoiceOf (codes "address") (codes "port" ∷ codes "socket" ∷ []) address
-    × HasArguments (codes "serve") (serve_rules methods modes) (address ∷ []) command)
+    × IsChoiceOf (codes "admission") (codes "clients" ∷ codes "unlimited-clients" ∷ []) admission
+    × HasArguments (codes "serve") (serve_rules methods modes) (address ∷ admission ∷ []) command)
 
 -- the parsers of the arguments whose values are words: of the exit statuses for each command
 pub record Parsers : Type 0 where

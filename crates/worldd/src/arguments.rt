@@ -7,10 +7,11 @@ ghost use Rattle.clap.specs.declared.parser.matches.Found.{Found};
 ghost use Rattle.clap.specs.declared.builder.command.Command.{Command as WordsCommand};
 ghost use Rattle.world_actions.specs.declared.world.TheConstants.{CELLS as world_cells};
 ghost use Rattle.worldd.specs.Grammar.{value_rule, needed_rule, number_rule, flag_rule};
-ghost use Rattle.worldd.specs.Grammar.{folder_rule, losses_rule, statuses_rule, status_words};
+ghost use Rattle.worldd.specs.Grammar.{folder_rule, guard_rule, losses_rule, statuses_rule};
+ghost use Rattle.worldd.specs.Grammar.{status_words};
 ghost use Rattle.worldd.specs.Grammar.{report_rules, inspect_rules, backup_rules, salvage_rules};
 ghost use Rattle.worldd.specs.Grammar.{HasStatuses, IsChoice};
-ghost use Rattle.worldd.specs.Grammar.{IsArgument, IsChoiceOf, IsCreate, HasArguments};
+ghost use Rattle.worldd.specs.Grammar.{IsArgument, IsSomeOf, IsCreate, HasArguments};
 ghost use Rattle.worldd.specs.Grammar.{HasCommands, HasGrammar};
 ghost use Rattle.worldd.specs.Invocation.{IsCommand};
 ghost use Rattle.worldd.specs.Values.{AsksForStatuses, HasFlag, HasNumber, refuses};
@@ -39,6 +40,9 @@ pub const TO: &str = "to";
 
 /// The name of the argument for the exit statuses.
 const STATUSES: &str = "statuses";
+
+/// The name of the flag by which a world gets a guard.
+pub const GUARD: &str = "guard";
 
 /// The name of the flag by which a loss is refused.
 const REFUSE_LOSSES: &str = "refuse-losses";
@@ -142,15 +146,16 @@ fn create_command<'a>(alloc: Global) -> Result<Command<'a>, AllocError>
     folder_command(alloc, "create", about, CREATE_HELP)?
         .arg(cells_argument(alloc))?
         .arg(list_argument(alloc))?
+        .arg(guard_argument(alloc))?
         .group(content_group(alloc)?)
 }
 
-// Exactly one of the number of cells and the words is wanted.
+// The number of cells or the words are wanted, or both.
 fn content_group<'a>(alloc: Global) -> Result<ArgGroup<'a>, AllocError>
-    ensures { IfOk result (IsChoiceOf (codes "content") (codes "cells" ∷ codes "words" ∷ [])) }
+    ensures { IfOk result (IsSomeOf (codes "content") (codes "cells" ∷ codes "words" ∷ [])) }
 {
     let group = ArgGroup::new(alloc, CONTENT).arg(CELLS)?.arg(WORDS)?;
-    Ok(group.required(true))
+    Ok(group.required(true).multiple(true))
 }
 
 fn inspect_command<'a>(alloc: Global) -> Result<Command<'a>, AllocError>
@@ -211,13 +216,14 @@ fn cells_argument<'a>(alloc: Global) -> Arg<'a>
     ensures { IsArgument (number_rule (codes "cells") 1 world_cells []) result }
 {
     let cells = value_parser!(u32).range(1..=i64::from(world_actions::CELLS));
-    value_argument(alloc, CELLS, "N", "The number of cells, all 0").value_parser(cells)
+    let help = "The number of cells: they are 0, or as many as FILE lists";
+    value_argument(alloc, CELLS, "N", help).value_parser(cells)
 }
 
 fn list_argument<'a>(alloc: Global) -> Arg<'a>
     ensures { IsArgument (value_rule (codes "words")) result }
 {
-    let help = "A file with the words of the cells, in place of their number";
+    let help = "A file with the words of the cells";
     value_argument(alloc, WORDS, "FILE", help)
 }
 
@@ -243,6 +249,14 @@ fn statuses_argument<'a>(alloc: Global) -> Arg<'a>
     value_argument(alloc, STATUSES, "WHICH", help)
         .default_value("plain")
         .value_parser(["plain", "detailed"].as_slice())
+}
+
+/// The flag by which a world gets a guard.
+pub fn guard_argument<'a>(alloc: Global) -> Arg<'a>
+    ensures { IsArgument guard_rule result }
+{
+    let help = "Keeps a file beside the world by which an older world is known";
+    flag_argument(alloc, GUARD, help)
 }
 
 /// The flag by which a loss is refused.

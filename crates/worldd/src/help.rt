@@ -41,9 +41,11 @@ It creates the missing ones of image.a, image.b, log.a and log.b, writes a world
 cells, all 0, into them, and prints `created N`. A file that is closed, by its first
 byte, is overwritten: use a folder for this world only. With --words the cells have the
 words that FILE lists: numbers from 0 to 999999999999999999, with a space or a newline
-between them, as `inspect --words` prints them. After a fault the status is 1, and the
-first line on standard error is `fault CODE`:
-  16 FILE lists no world: the line is named, and nothing was made,
+after each and a newline after the last, as `inspect --words` prints them. With --cells
+too, it has to list N. With --guard it then writes the file guard, by which an older
+world is known. After a fault the status is 1, and the first line on standard error is
+`fault CODE`:
+  16 FILE lists no world, is cut off or has other than N words: nothing was made,
   17 there is no memory, 18 a file can't be opened or written, is no ordinary file of
   its own, or another program writes this world, 22 a file may hold a world: nothing
   was written";
@@ -54,7 +56,10 @@ It reads image.a, image.b, log.a and log.b, writes nothing and locks nothing, an
 `recovered N from T`: they hold the world after tick N, built from the image of tick T.
 A file that is empty beside an image of a later tick than 0, or a log that begins after
 tick N, was lost. It is named on standard error, or refused with --refuse-losses. That
-flag also refuses an empty log beside an image of tick 0, or names it if N is 0.
+flag also refuses an empty log beside an image of tick 0. If N is 0 it is only named, and
+the status is 14. A read that failed, and was tried again, is named too.
+If the folder has the file guard, and N is below its tick, that is named before a lost
+file, and the status is 14. A file guard that is none is refused with 18.
 If they hold no world the status is 1, and the first line on standard error is
 `fault CODE`:
   13 no image is open, 14 an image is damaged or lost, 15 the log is damaged or lost,
@@ -70,6 +75,7 @@ a line for each, in this order:
   NAME: damaged, 9 bytes                                    open, and of neither format
   NAME: unreadable: REASON
 It reads format 1, of an earlier release, and format 2, which this release writes.
+It names what was lost, and a world older than its guard, as `recover` does.
 Then it prints `recovered N from T in NAME`: the files hold the world after tick N, built
 from the image of tick T. If they hold no world it ends as `recover` does.";
 
@@ -81,6 +87,9 @@ which a server is known, and gives back at once what it gets. It prints four lin
   log: 9 ticks after the image, log.a has 9 of 65536
   bytes: image.a 33, image.b 33, log.a 145, log.b 10, together 221
   server: running, log up, images up
+If the folder has the file guard, a line on it is the last but one, with a time that
+`date -d @1796018400` prints, at which ticks up to 9 were acknowledged:
+  guard: tick 9 at @1796018400, image of tick 7, start 2 of world 6012954214
 At 65536 ticks in a segment batches are refused with 6: its server writes no images. The
 last line is `server: none` if no program writes the world, and `server: unknown` if this
 user can't read image.a. A log or images may be `down`, which lasts up to the server's
@@ -92,32 +101,43 @@ pub const BACKUP_HELP: &str = "\
 It copies the newest image and the log of a world, also while a server writes them, and
 locks nothing. It recovers the copy, makes it durable, and prints `backed up N from T`:
 the copy holds the world after tick N, built from the image of tick T. It has every tick
-that was answered before it began. It makes no folder, and names or refuses what was
-lost as `recover` does. After a fault the status is 1, and the first line on standard
-error is `fault CODE`:
+that was answered before it began. If there is the file guard, it copies it too, as it
+was before. It makes no folder. It names or refuses what was lost, and names a world
+older than its guard, as `recover` does. After a fault the files that it made are
+removed, or named, the status is 1, and the first line on standard error is `fault CODE`:
   13 no image is open, 14 an image is damaged or lost, 15 the log is damaged or lost,
   17 there is no memory, 18 a file is missing, can't be read or written, or a server
-  began a new image under each of 1000 tries, 22 the folder of the copy isn't empty";
+  began a new image under each of 1000 tries, 22 the folder of the copy isn't empty, or
+  lies in that of the world";
 
 /// The end of `worldd salvage --help`.
 pub const SALVAGE_HELP: &str = "\
 It makes a world in an empty folder of what can be read of files that `recover` refuses,
-and writes nothing into theirs. A bad image is left out, a log is cut after its last
-whole group whose actions can be played again, and a lost file counts as closed. It
-prints what it took of each file, and `salvaged N from T`: the new files hold the world
-after tick N. Later ticks are lost. After a fault the status is 1, and the first line on
-standard error is `fault CODE`:
+and writes nothing into theirs. A bad image is left out, and a log is cut after its last
+whole group whose actions can be played again. A file that can't be read at two tries is
+lost, and counts as closed. It prints what it took of each file, and `salvaged N from N`:
+the new files hold the world after tick N. The last line is `dropped: nothing`, or names
+the files of which something was dropped: later ticks may be lost. Its status is 14 then,
+and also if N is below the tick of the file guard, which is named. It makes no guard.
+After a fault the files that it made are removed, or named, the status is 1, and the
+first line on standard error is `fault CODE`:
   13 no image can be read, 17 there is no memory, 18 a file can't be read or written,
-  22 the folder of the new files isn't empty";
+  22 the folder of the new files isn't empty, or lies in that of the world";
 
 /// The end of `worldd serve --help`.
 pub const SERVE_HELP: &str = "\
 It recovers the world in the folder, and listens on port P of 127.0.0.1, or on a socket
 of the system at PATH, until K connections have come and gone, each in a thread of its
-own. It makes no other file. METHOD is zigzag or pingpong, E from 1 to 65536, P from 0 to
-65535, K from 1 to 100000, SECONDS up to 86400, PATH of at most 101 bytes. After the
-last connection the port or the socket is closed; the file at PATH is removed at the end.
+own. With --unlimited-clients it never ends by that. It makes no file of the world.
+METHOD is zigzag or pingpong, E from 1 to 65536, P from 0 to 65535, K from 1 to 100000,
+SECONDS and S up to 86400, PATH of at most 101 bytes. After the last connection the port
+or the socket is closed; the file at PATH is removed at the end.
 With --exit-when-closed it waits for clients that are left for so many seconds only.
+With --exit-when-images-down it ends earlier if no more than 8192 ticks have room.
+With --exit-when-replaced it answers no tick after it has seen that.
+With --guard it makes the file guard, if the folder has none. In a folder that has it, it
+writes the greatest acknowledged tick into it, once a second at most, and serves no world
+that is older, also without the flag. With --accept-loss it does, and begins a new guard.
 Any user of this machine may connect to a port, and to a socket those whom MODE lets
 write its file.
 A client writes lines, and `end` closes a batch, which is answered once it is durable:
@@ -127,13 +147,20 @@ It prints, each line at once:
   recovered N from T        it found the world after tick N, built from the image of T
   listening PORT            clients may come; with a socket it is `listening PATH`
   stopped tick N acked A    all are gone: N ticks ended, and those up to A are durable;
-                            not after an end by one of the two flags --exit-when-..
+                            not after an end by a flag --exit-when-..
 On standard error it prints, and drops lines that nobody reads:
   worldd: an image every 64 ticks can halve the speed: give --every, for example 4096
   worldd: FILE is empty, so it was lost        or: begins after ticks that were lost
   worldd: FILE is empty: if this world was played, its ticks are lost
+  worldd: tick T was recovered, and the guard has tick A at @SECONDS: restore newer
+      files, or serve them by --accept-loss
+  worldd: the loss is accepted: numbers after tick T are given again, since a log has
+      no gap
+  worldd: the guard wasn't written: REASON     the old one stays, and play continues
   worldd: image of tick T opened
   worldd: images down: FILE: REASON            play continues without images
+  worldd: images down: N more ticks can end, then each batch is refused with 6
+  worldd: each batch is refused with 6: no image has opened for 65536 ticks
   worldd: log down after tick T: FILE: REASON  batches are answered `fault 12`
   worldd: FILE was removed or replaced: save the files before the server ends
   worldd: session refused: REASON              a client was closed unanswered
@@ -142,14 +169,16 @@ On standard error it prints, and drops lines that nobody reads:
   worldd: the port is closed: no more clients can come       or: the socket
   worldd: listener failed: REASON              no more clients can come
   worldd: standard output: REASON              a line couldn't be printed
-  worldd: tick T acked A image I sessions S batches/s B waiting W     by --report: T
-      ticks have ended, those up to A were answered, the newest image is of tick I,
-      S clients play, W batches wait
+  worldd: tick T acked A image I sessions S batches/s B waiting W room R lasts L
+      by --report: T ticks have ended, those up to A were answered, the newest image is of
+      tick I, S clients play, W batches wait; R more ticks can end until an image is
+      begun, which lasts for L seconds at the speed since the last look
   worldd: lines dropped: COUNT                 nobody read them
 Its status is 0; 12 if the log is down, else 11 if images are; 2 for a wrong command
 line; else 1. With detailed statuses it is 10 if the listener failed, and 13 if memory,
 threads or room on the disk is wanting. After 1 and 13 standard error has `fault CODE`:
-  13 no image is open, 14 an image is damaged or lost, 15 the log is damaged or lost,
-  17 there is no memory, or no thread for the server, 18 a file is missing, fails or is
-  no ordinary file of its own, another program writes this world, the port or the socket
+  13 no image is open, 14 an image is damaged or lost, 15 the log is damaged or lost, or
+  the world is older than its guard, 17 there is no memory, or no thread for the server,
+  18 a file is missing, fails or is no ordinary file of its own, the file guard is no
+  guard of a world, another program writes this world, the port or the socket
   can't be listened on, or a line couldn't be printed";

@@ -5,7 +5,7 @@ ghost use Rattle.clap.specs.Words.{first_value, found_of, subcommand_name_of};
 ghost use Rattle.worldd.specs.declared.invocation.Invocation.{Invocation as AnInvocation};
 ghost use Rattle.worldd.specs.Invocation.{IsCommand, IsPossible, AsksForCells, AsksTo};
 
-use crate::arguments::{CELLS, FOLDER, TO, WORDS, number_of, on_loss_of};
+use crate::arguments::{CELLS, FOLDER, GUARD, TO, WORDS, number_of, on_loss_of};
 use clap::ArgMatches;
 use world_folder::OnLoss;
 
@@ -14,15 +14,18 @@ use world_folder::OnLoss;
 pub enum Invocation<'a> {
     /// Runs a script over a world in memory.
     Steps,
-    /// Makes a world of so many cells.
+    /// Makes a world of so many cells, with a guard or without one.
     Create {
         folder: &'a str,
         cells: u32,
+        guards: bool,
     },
-    /// Makes a world of the words in a file.
+    /// Makes a world of the words in a file, which lists so many if that is said.
     CreateOfWords {
         folder: &'a str,
         words: &'a str,
+        asked: Option<u32>,
+        guards: bool,
     },
     Recover {
         folder: &'a str,
@@ -110,10 +113,16 @@ fn creation_in<'a>(folder: &'a str, given: &ArgMatches<'a>) -> Option<Invocation
         → AsksTo (codes "create") (found_of given.now) invocation → ⊥) }
 {
     match given.get_str(WORDS) {
-        Some(words) => Some(Invocation::CreateOfWords { folder, words }),
+        Some(words) => Some(Invocation::CreateOfWords {
+            folder,
+            words,
+            asked: number_of(given, CELLS),
+            guards: given.get_flag(GUARD),
+        }),
         None => Some(Invocation::Create {
             folder,
             cells: cells_of(given)?,
+            guards: given.get_flag(GUARD),
         }),
     }
 }

@@ -8,8 +8,10 @@
 //!
 //! The status is 0 if the run ended well, 2 for a wrong command line, and 1 after a fault. Standard
 //! error then has `fault CODE`, and the reason on the next line. A server ends with 12 if its log
-//! is down, and with 11 if its images are. With `--statuses detailed` it is 13 after a fault by a
-//! shortage of memory, threads or room on a disk, and 10 of a server whose listener failed.
+//! is down, and with 11 if its images are. A command that did its work ends with 14 if ticks that
+//! were answered may be missing from the world that it found. With `--statuses detailed` it is 13
+//! after a fault by a shortage of memory, threads or room on a disk, and 10 of a server whose
+//! listener failed.
 #![tactic(auto)]
 
 ghost use Rattle.std.specs.Prelude.{◌≡◌, IfSome, IfNone};
@@ -31,7 +33,7 @@ use std::io;
 use std::time::Clock;
 use streams::run_steps;
 use world_actions::Refusal;
-use world_folder::{Ending, Exit, Stream, StreamFailure, create, create_of_words, opened};
+use world_folder::{Ending, Exit, Stream, StreamFailure, create, create_of_words, guarded, opened};
 use world_reports::{back_up, inspect, recover, salvage_world, status};
 use world_server::serve;
 
@@ -71,25 +73,40 @@ fn run<R: Input + Print + Eprint + Clock + Files<File = File> + AllocGlobal + Cl
     };
     match invocation {
         Invocation::Steps => run_steps(rt.alloc(), rt.reader(), io::writer(rt)),
-        Invocation::Create { folder, cells } => Ending::of_command(create(rt, folder, cells)),
-        Invocation::CreateOfWords { folder, words } => {
-            Ending::of_command(create_of_words(rt, folder, words))
+        Invocation::Create {
+            folder,
+            cells,
+            guards,
+        } => guarded(
+            rt,
+            folder,
+            guards,
+            Ending::of_command(create(rt, folder, cells)),
+        ),
+        Invocation::CreateOfWords {
+            folder,
+            words,
+            asked,
+            guards,
+        } => {
+            let ending = Ending::of_command(create_of_words(rt, folder, words, asked));
+            guarded(rt, folder, guards, ending)
         }
         Invocation::Recover { folder, on_loss } => {
-            Ending::of_command(recover(rt, folder, on_loss))
+            Ending::of_either(recover(rt, folder, on_loss))
         }
         Invocation::Inspect {
             folder,
             words,
             on_loss,
-        } => Ending::of_command(inspect(rt, folder, words, on_loss)),
-        Invocation::Status { folder, on_loss } => Ending::of_command(status(rt, folder, on_loss)),
+        } => Ending::of_either(inspect(rt, folder, words, on_loss)),
+        Invocation::Status { folder, on_loss } => Ending::of_either(status(rt, folder, on_loss)),
         Invocation::BackUp {
             folder,
             to,
             on_loss,
-        } => Ending::of_command(back_up(rt, folder, to, on_loss)),
-        Invocation::Salvage { folder, to } => Ending::of_command(salvage_world(rt, folder, to)),
+        } => Ending::of_either(back_up(rt, folder, to, on_loss)),
+        Invocation::Salvage { folder, to } => Ending::of_either(salvage_world(rt, folder, to)),
     }
 }
 

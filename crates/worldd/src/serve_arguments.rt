@@ -7,15 +7,17 @@ ghost use Rattle.world_server.specs.declared.socket.SocketMode.{SocketMode as Mo
 ghost use Rattle.world_server.specs.Socket.{mode_word};
 ghost use Rattle.shared_capture.specs.declared.method.Kind.{Kind as MethodKind};
 ghost use Rattle.world_server.specs.Methods.{method_word};
-ghost use Rattle.worldd.specs.Grammar.{value_rule, number_rule, needed_number_rule, flag_rule};
+ghost use Rattle.worldd.specs.Grammar.{value_rule, number_rule, flag_rule};
+ghost use Rattle.worldd.specs.Grammar.{optional_number_rule};
 ghost use Rattle.worldd.specs.Grammar.{method_rule, method_words, mode_rule, mode_words};
 ghost use Rattle.worldd.specs.Grammar.{IsArgument, IsChoice, IsChoiceOf, Excludes, IsServe};
 ghost use Rattle.worldd.specs.Invocation.{IsCommand};
-ghost use Rattle.worldd.specs.Service.{AsksFor, AsksForAddress};
+ghost use Rattle.worldd.specs.Service.{AsksFor, AsksForAddress, AsksForClients};
 ghost use Rattle.worldd.specs.Values.{HasNumber};
 
 use crate::arguments::{
-    FOLDER, flag_argument, folder_command, losses_argument, number_of, on_loss_of, value_argument,
+    FOLDER, GUARD, flag_argument, folder_command, guard_argument, losses_argument, number_of,
+    on_loss_of, value_argument,
 };
 use crate::help::SERVE_HELP;
 use clap::error::Error;
@@ -40,6 +42,8 @@ const SOCKET_MODE: &str = "socket-mode";
 
 const CLIENTS: &str = "clients";
 
+const UNLIMITED_CLIENTS: &str = "unlimited-clients";
+
 const IDLE: &str = "idle";
 
 const REPORT: &str = "report";
@@ -48,8 +52,20 @@ const EXIT_WHEN_LOG_DOWN: &str = "exit-when-log-down";
 
 const EXIT_WHEN_CLOSED: &str = "exit-when-closed";
 
+const EXIT_WHEN_IMAGES_DOWN: &str = "exit-when-images-down";
+
+const EXIT_WHEN_REPLACED: &str = "exit-when-replaced";
+
+const ACCEPT_LOSS: &str = "accept-loss";
+
 /// The name of the group of the port and the socket.
 const ADDRESS: &str = "address";
+
+/// The name of the group of the number of clients and the flag that stands in its place.
+const ADMISSION: &str = "admission";
+
+/// As many clients as a server counts.
+const UNLIMITED: Clients = Clients(u32::MAX);
 
 /// The command `serve`, with its arguments.
 pub fn serve_command<'a>(alloc: Global) -> Result<Command<'a>, AllocError>
@@ -63,12 +79,18 @@ pub fn serve_command<'a>(alloc: Global) -> Result<Command<'a>, AllocError>
         .arg(socket_argument(alloc))?
         .arg(socket_mode_argument(alloc)?)?
         .arg(clients_argument(alloc))?
+        .arg(unlimited_argument(alloc))?
         .arg(idle_argument(alloc))?
         .arg(report_argument(alloc))?
         .arg(exit_argument(alloc))?
         .arg(closed_argument(alloc))?
+        .arg(images_argument(alloc))?
+        .arg(replaced_argument(alloc))?
+        .arg(guard_argument(alloc))?
+        .arg(accept_argument(alloc))?
         .arg(losses_argument(alloc))?
-        .group(address_group(alloc)?)
+        .group(address_group(alloc)?)?
+        .group(admission_group(alloc)?)
 }
 
 fn method_argument<'a>(alloc: Global) -> Arg<'a>
@@ -155,12 +177,38 @@ fn mode_of(text: &str) -> Option<SocketMode>
 }
 
 fn clients_argument<'a>(alloc: Global) -> Arg<'a>
-    ensures { IsArgument (needed_number_rule (codes "clients") 1 100_000) result }
+    ensures { IsArgument (number_rule (codes "clients") 1 100_000 []) result }
 {
     let help = "After how many connections it accepts no more";
-    value_argument(alloc, CLIENTS, "K", help)
-        .required(true)
-        .value_parser(value_parser!(u32).range(1..=100_000))
+    value_argument(alloc, CLIENTS, "K", help).value_parser(value_parser!(u32).range(1..=100_000))
+}
+
+fn unlimited_argument<'a>(alloc: Global) -> Arg<'a>
+    ensures { IsArgument (flag_rule (codes "unlimited-clients")) result }
+{
+    let help = "Accepts connections as long as it runs, in place of their number";
+    flag_argument(alloc, UNLIMITED_CLIENTS, help)
+}
+
+// Exactly one of the number of clients and the flag is wanted.
+fn admission_group<'a>(alloc: Global) -> Result<ArgGroup<'a>, AllocError>
+    ensures { IfOk result (IsChoiceOf (codes "admission")
+        (codes "clients" ∷ codes "unlimited-clients" ∷ [])) }
+{
+    let group = ArgGroup::new(alloc, ADMISSION)
+        .arg(CLIENTS)?
+        .arg(UNLIMITED_CLIENTS)?;
+    Ok(group.required(true))
+}
+
+// How many clients may come. Without a number the flag was given, since one of both is wanted.
+fn clients_of(given: &ArgMatches<'_>) -> Clients
+    ensures { AsksForClients (found_of given.now) result.0 }
+{
+    match number_of(given, CLIENTS) {
+        Some(number) => Clients(number),
+        None => UNLIMITED,
+    }
 }
 
 fn idle_argument<'a>(alloc: Global) -> Arg<'a>
@@ -195,6 +243,31 @@ fn closed_argument<'a>(alloc: Global) -> Arg<'a>
     ))
 }
 
+fn images_argument<'a>(alloc: Global) -> Arg<'a>
+    ensures { IsArgument (optional_number_rule (codes "exit-when-images-down") 0 86_400 (codes "60"))
+        result }
+{
+    let help = "Ends with status 11 S seconds, or 60, after images are down; never by default";
+    value_argument(alloc, EXIT_WHEN_IMAGES_DOWN, "S", help)
+        .num_args(0..=1)
+        .default_missing_value("60")
+        .value_parser(value_parser!(u32).range(0..=86_400))
+}
+
+fn replaced_argument<'a>(alloc: Global) -> Arg<'a>
+    ensures { IsArgument (flag_rule (codes "exit-when-replaced")) result }
+{
+    let help = "Ends with status 12 once one of its files was removed or replaced";
+    flag_argument(alloc, EXIT_WHEN_REPLACED, help)
+}
+
+fn accept_argument<'a>(alloc: Global) -> Arg<'a>
+    ensures { IsArgument (flag_rule (codes "accept-loss")) result }
+{
+    let help = "Serves a world that is older than its guard";
+    flag_argument(alloc, ACCEPT_LOSS, help)
+}
+
 /// The service that the words ask for, if the command is `serve`.
 pub fn service_of<'a>(matches: &ArgMatches<'a>) -> Option<Service<'a>>
     ensures some { IfSome result (λ service. (found : Found)
@@ -217,11 +290,15 @@ fn service_in<'a>(given: &ArgMatches<'a>) -> Option<Service<'a>>
         method: method_of(given.get_str(METHOD)?)?,
         every: every_in(given),
         address: address_of(given)?,
-        clients: Clients(number_of(given, CLIENTS)?),
+        clients: clients_of(given),
         idle: number_of(given, IDLE),
         report: number_of(given, REPORT)?,
         exit_when_closed: number_of(given, EXIT_WHEN_CLOSED),
         exits_when_log_down: given.get_flag(EXIT_WHEN_LOG_DOWN),
+        exit_when_images_down: number_of(given, EXIT_WHEN_IMAGES_DOWN),
+        exits_when_replaced: given.get_flag(EXIT_WHEN_REPLACED),
+        guards: given.get_flag(GUARD),
+        accepts_loss: given.get_flag(ACCEPT_LOSS),
         on_loss: on_loss_of(given),
     })
 }

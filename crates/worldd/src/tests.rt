@@ -374,6 +374,32 @@ fn one_address_is_wanted(rt: HostRuntime) -> Result<(), Fail> {
 }
 
 #[test]
+fn a_number_of_clients_or_the_flag_is_wanted(rt: HostRuntime) -> Result<(), Fail> {
+    let both = [
+        "worldd",
+        "serve",
+        "--dir",
+        "d",
+        "--method",
+        "zigzag",
+        "--port",
+        "1",
+        "--unlimited-clients",
+        "--clients",
+        "1",
+    ];
+    for line in [&both[..8], both.as_slice()] {
+        let line = words(rt.alloc(), line)?;
+        assert!(rt; matches_of(rt.alloc(), &line).is_err());
+    }
+    let Some((_, _, _, _, clients, ..)) = asked(rt.alloc(), &both[..9])? else {
+        return Err(Fail::new("not understood"));
+    };
+    assert_eq!(rt; clients, Clients(4_294_967_295));
+    Ok(())
+}
+
+#[test]
 fn other_commands_do_not_serve(rt: HostRuntime) -> Result<(), Fail> {
     let other = asked(rt.alloc(), &["worldd", "recover", "--dir", "world"])?;
     assert!(rt; other.is_none());

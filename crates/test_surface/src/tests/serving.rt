@@ -6,7 +6,7 @@ use std::sync::Wait;
 use std::thread::Threads;
 use std::time::Clock;
 use worker_threads::{Seats, Watch};
-use world_folder::OnLoss;
+use world_folder::Checks;
 use world_server::{Every, Front, Served, WorldFailure, serve_tcp};
 
 // Serves the world of four files to the clients of a front.
@@ -23,7 +23,7 @@ fn serve<
     files: FourFiles<D>,
     every: Every,
     admission: Admission,
-    on_loss: OnLoss,
+    checks: Checks,
 ) -> Result<Served<M, D>, WorldFailure<D>> {
-    serve_tcp(rt, alloc, front, files, every, admission, on_loss)
+    serve_tcp(rt, alloc, front, files, every, admission, checks)
 }

@@ -14,7 +14,9 @@ use std::process::Abort;
 use std::sync::Wait;
 use std::thread::Threads;
 use worker_steps::{Gates, Opened, Together};
-use worker_threads::{Ends, Seats, TickWatch, Watch, Workers, ends_meet, start, start_world, stop};
+use worker_threads::{
+    Acked, Ends, Seats, TickWatch, Watch, Workers, ends_meet, start, start_world, stop,
+};
 use workers::{
     AskChannel, AskReceiver, Asker, AwaitedReply, Checkpointer, Gate, ImageWriter, Log, LogWriter,
     Looks, Mutator, Open, Pass, Place, Post, Refused, Reply, ReplySlot, play,
@@ -244,13 +246,15 @@ fn each_worker_takes_a_turn(rt: HostRuntime) {
 struct Deaf;
 
 impl TickWatch for Deaf {
-    fn ticks_ended(&mut self, _ticks: u64) {}
+    fn ticks_ended(&mut self, _ticks: u64, _since: u64) {}
 }
 
 impl<D: Disk + Drop> Watch<D> for Deaf {
     fn image_opened(&mut self, _tick: u64) {}
 
     fn images_down(&mut self, _images: &ImageWriter<D>) {}
+
+    fn ticks_acked(&mut self, _acked: Acked) {}
 
     fn log_down(&mut self, _acked: u64, _log: &Log<D>) {}
 }

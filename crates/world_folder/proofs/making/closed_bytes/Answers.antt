@@ -1,4 +1,4 @@
-use Rattle.std.proofs.Common.{Err, refl, ap}
+use Rattle.std.proofs.Common.{Err, ap}
 use Rattle.std.proofs.lemmas.Bool.{false≢true}
 use Rattle.world_start.specs.Fresh.{AreClosed}
 use Rattle.world_start.proofs.Faults.{some_of_one}

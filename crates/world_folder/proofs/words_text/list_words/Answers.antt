@@ -1,17 +1,15 @@
 use Rattle.std.proofs.Common.{◌≡◌, ◌<◌, ℕ, List, [], ◌∷◌, ◌++◌, length, take, slice_index, decimal, subst, sym, ap, ◌∙◌, arith, rules}
-use Rattle.world_folder.specs.WordsText.{ListsEach, Lists}
-use Rattle.world_folder.proofs.WordsLemmas.{last_listed, goes_on}
+use Rattle.world_folder.specs.WordsText.{HasNoSeparator, ListsEach}
+use Rattle.world_folder.proofs.WordsLemmas.{cut_off, goes_on}
 use Rattle.world_folder.proofs.words_text.list_words.Goals as goal
 
-pub returns-then-end-rest-clause-listed : goal.returns-then-end-rest-clause-listed
-returns-then-end-rest-clause-listed c =
+pub returns-then-end-rest-clause-cut : goal.returns-then-end-rest-clause-cut
+returns-then-end-rest-clause-cut c = λ same.
     let inv = c.loop-rest.invariant in
     let rest = c.loop-rest.rest.now in
-    let word = c.in-Some.word in
-    let part : take (length rest) rest ≡ decimal word = search rules in
-    let all = last_listed c.loop-rest.words.items inv.0 rest c.args.text.now word inv.1 part inv.2 in
-    let pushed : c.push.new.self.items ≡ c.loop-rest.words.items ++ word ∷ [] = search rules in
-    subst (λ (words : List ℕ). Lists words c.args.text.now) (sym pushed) all
+    let none : HasNoSeparator (take (length rest) rest) = search rules in
+    let some : 0 < length rest = search rules in
+    cut_off inv.0 rest c.args.text.now inv.1 none some
 
 pub loop-rest-preserved : goal.loop-rest-preserved
 loop-rest-preserved c =

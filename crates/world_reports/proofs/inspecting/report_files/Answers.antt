@@ -14,13 +14,16 @@ returns-clause-reported g c = λ honest honest_files.
       bytes = c.in_ok-found.field-0-0;
       found = c.in_ok-found.found.world;
       finding = c.in_ok-found.found.finding;
+      named = g.F.Folder.history c.warn_of_failed.new.folder;
       is_seen = c.in_ok-seen.ensures.seen honest honest_files;
       files = c.in_ok-print_files.ensures.printed honest;
       are_read = c.in_ok-found.ensures.read;
       stands = c.in_ok-found.ensures.found;
       judged = c.in_ok-found.ensures.judged;
+      failed = c.in_ok-warn_of_failed.ensures honest;
       printed = c.in_ok-print_words.ensures.printed honest
           ∙ ((λ i. words_printed c.args.with_words words (c.in_ok-print.ensures.printed honest i))
           ∙ (λ i. words_printed c.args.with_words words
           (Printed (recovered_text (c.of.ensures.world i).tick (c.of.ensures.world i).from (c.of.ensures.slot i)) ∷ c.in_ok-warn_of.ensures honest i)));
+      ends = c.of_finding.ensures.ends;
     }

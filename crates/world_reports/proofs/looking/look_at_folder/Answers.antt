@@ -1,4 +1,4 @@
-use Rattle.std.proofs.Common.{inl}
+use Rattle.std.proofs.Common.{inl, refl}
 use Rattle.world_reports.proofs.looking.look_at_folder.Goals as goal
 
 pub returns-in-Ok-clause-seen : goal.returns-in-Ok-clause-seen
@@ -8,4 +8,5 @@ returns-in-Ok-clause-seen g c = λ honest honest_files. inl (record {
   copy = c.in-Ok.ensures.copied honest honest_files;
   are_read = c.named.ensures.read;
   are_known = c.known.ensures;
+  none_failed = refl;
 })

@@ -6,8 +6,11 @@ use Rattle.world_reports.proofs.recovering.report_world.Goals as goal
 pub returns-clause-reported : goal.returns-clause-reported
 returns-clause-reported g c = λ honest honest_files. record {
   world = c.in_ok-seen.seen;
-  acts = g.F.Folder.history c.look_for_world.new.folder;
+  looked = g.F.Folder.history c.look_for_world.new.folder;
+  acts = g.F.Folder.history c.warn_of_failed.new.folder;
   is_seen = c.in_ok-seen.ensures.seen honest honest_files;
+  failed = c.in_ok-warn_of_failed.ensures honest;
   printed = c.in_ok-print.ensures.printed honest
       ∙ (λ i. Printed (recovered_line (c.of.ensures i).tick (c.of.ensures i).from) ∷ c.in_ok-warn_of.ensures honest i);
+  ends = c.of_finding.ensures.ends;
 }

@@ -10,7 +10,7 @@ pub returns : goal.returns
 returns c =
     let create_group = c.in_ok-create_command.ensures.0 in
     let serves = c.in_ok-serve_command.ensures in
-    let address = serves.4.0 in
+    let serve_groups = serves.4.0 ∷ serves.4.1 ∷ [] in
     let steps_words = c.in_ok-with_statuses.ensures (codes "steps") [] [] c.steps_command.ensures in
     let create_words = c.in_ok-with_statuses-2.ensures (codes "create") create_rules (create_group ∷ []) c.in_ok-create_command.ensures.2 in
     let recover_words = c.in_ok-with_statuses-3.ensures (codes "recover") report_rules [] c.in_ok-report_command.ensures in
@@ -18,7 +18,7 @@ returns c =
     let status_words = c.in_ok-with_statuses-5.ensures (codes "status") report_rules [] c.in_ok-report_command-2.ensures in
     let backup_words = c.in_ok-with_statuses-6.ensures (codes "backup") backup_rules [] c.in_ok-backup_command.ensures in
     let salvage_words = c.in_ok-with_statuses-7.ensures (codes "salvage") salvage_rules [] c.in_ok-salvage_command.ensures in
-    let serve_words = c.in_ok-with_statuses-8.ensures (codes "serve") (serve_rules serves.0 serves.1) (address ∷ []) serves.4.2 in
+    let serve_words = c.in_ok-with_statuses-8.ensures (codes "serve") (serve_rules serves.0 serves.1) serve_groups serves.4.4 in
     let steps = command_added _ (codes "steps") _ _ _ _ _ c.no_command.ensures steps_words.2 c.in_ok-subcommand.ensures in
     let create = command_added _ (codes "create") _ _ _ _ _ steps create_words.2 c.in_ok-subcommand-2.ensures in
     let recover = command_added _ (codes "recover") _ _ _ _ _ create recover_words.2 c.in_ok-subcommand-3.ensures in

@@ -6,10 +6,5 @@ use Rattle.worldd.proofs.serve_arguments.service_in.Goals as goal
 
 pub returns-in_err-number_of-clause-none : goal.returns-in_err-number_of-clause-none
 returns-in_err-number_of-clause-none c =
-    let none : (service : Service) → AsksFor (found_of c.args.given.now) service → ⊥ = λ service asks. c.in_err-number_of.ensures.none _ asks.clients in
-    search rules
-
-pub returns-in_err-number_of-2-clause-none : goal.returns-in_err-number_of-2-clause-none
-returns-in_err-number_of-2-clause-none c =
-    let none : (service : Service) → AsksFor (found_of c.args.given.now) service → ⊥ = λ service asks. c.in_err-number_of-2.ensures.none _ asks.report in
+    let none : (service : Service) → AsksFor (found_of c.args.given.now) service → ⊥ = λ service asks. c.in_err-number_of.ensures.none _ asks.report in
     search rules

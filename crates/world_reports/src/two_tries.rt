@@ -1,0 +1,96 @@
+//! A file of a damaged world, which is read again if it looks lost.
+ghost use Rattle.std.specs.Prelude.{◌≡◌, ◌↔◌, IsTrue};
+ghost use Rattle.world_reports.specs.TwoTries.{IsLost, IsTried, IsTriedAgain, AreTried};
+
+use disk_model::FourFiles;
+use std::alloc::Global;
+use std::io::{self, ErrorKind};
+use world_folder::{Folder, WorldFile, read_file};
+
+/// What came of reading a file, at one try or two.
+#[derive(Drop)]
+pub struct TwoTries {
+    pub file: WorldFile,
+    /// The error of the first try, if there was a second.
+    pub failed: Option<io::Error>,
+    /// What came of the last try.
+    pub value: io::Result<Vec<u8>>,
+}
+
+impl TwoTries {
+    ghost use Rattle.std.specs.Prelude.{◌≡◌};
+    ghost use Rattle.world_reports.specs.Salvaging.{failed_once};
+
+    /// The error of the first try, if the second one succeeded.
+    pub fn failed_once(&self) -> Option<io::Error>
+        ensures { result ≡ failed_once self.now }
+    {
+        if self.value.is_err() {
+            None
+        } else {
+            self.failed
+        }
+    }
+}
+
+/// Reads each file of a folder, as `read_folder` does. One that looks lost is read once more.
+pub fn try_folder<F: Folder>(alloc: Global, folder: &mut F) -> FourFiles<TwoTries>
+    ensures { IsTrue F.honest → IsTrue F.File.honest
+        → AreTried result (F.history folder.old) (F.history folder.new) }
+{
+    FourFiles {
+        image_a: try_file(alloc, folder, WorldFile::ImageA),
+        image_b: try_file(alloc, folder, WorldFile::ImageB),
+        log_a: try_file(alloc, folder, WorldFile::LogA),
+        log_b: try_file(alloc, folder, WorldFile::LogB),
+    }
+}
+
+fn try_file<F: Folder>(alloc: Global, folder: &mut F, file: WorldFile) -> TwoTries
+    ensures file { result.file ≡ file }
+    ensures tried { IsTrue F.honest → IsTrue F.File.honest → IsTried file result.failed result.value
+        (F.history folder.old) (F.history folder.new) }
+{
+    match read_file(alloc, folder, file) {
+        Ok(bytes) => TwoTries {
+            file,
+            failed: None,
+            value: Ok(bytes),
+        },
+        Err(error) => try_again(alloc, folder, file, error),
+    }
+}
+
+// Reads a file again whose first try failed so, if it looks lost.
+fn try_again<F: Folder>(
+    alloc: Global,
+    folder: &mut F,
+    file: WorldFile,
+    error: io::Error,
+) -> TwoTries
+    ensures file { result.file ≡ file }
+    ensures tried { IsTrue F.honest → IsTrue F.File.honest
+        → IsTriedAgain file error result.failed result.value (F.history folder.old)
+        (F.history folder.new) }
+{
+    if is_lost(&error) {
+        TwoTries {
+            file,
+            failed: Some(error),
+            value: read_file(alloc, folder, file),
+        }
+    } else {
+        TwoTries {
+            file,
+            failed: None,
+            value: Err(error),
+        }
+    }
+}
+
+/// True if a file isn't there, or its device can't read it.
+pub fn is_lost(error: &io::Error) -> bool
+    ensures { IsTrue result ↔ IsLost error.now }
+{
+    error.kind() == ErrorKind::NotFound || error.raw_os_error() == Some(libc::EIO)
+}
