@@ -32,7 +32,7 @@ from typing import NamedTuple
 
 import kill_trial
 import surroundings_trial
-from kill_trial import collected, judge, until_stopped
+from kill_trial import collected, judge
 from trial import METHODS, NAMES, PATIENCE_SECONDS, PORT, Words, Wrong, all_met, ask, compare, flags_of, found_in_text
 from trial import library_of, parser_of, pipe, ran, status_in_folder, want
 
@@ -71,8 +71,10 @@ NOTICED_SECONDS, WRITTEN_SECONDS = 0.8, 1.3
 
 # How long a guard is looked at, and a server plays before it is killed.
 SAMPLED_SECONDS, PLAY_SECONDS = 3.2, (0.05, 2.0)
-# How many copies of a served world are taken. A slow one, while images are rare, waits so long at most after each read.
+# How many copies of a served world are taken. A slow one, while images are rare, waits so long at most after each read. Its client
+# pauses longer after each batch, since a copy begins anew if a tick is played before its last read.
 COPIES, SLOW_COPIES, SLOWED_MICROSECONDS = 8, 4, 15_000
+PAUSE_SECONDS, LONGER_SECONDS = 0.001, 0.02
 # After how many samples other commands look at the world.
 LOOKED = 200
 # The calls by which a guard is written. The folder has the name ".".
@@ -367,10 +369,11 @@ class Trial:
         return guard
 
     @contextlib.contextmanager
-    def played(self, server: Server) -> Iterator[kill_trial.Client]:
-        """A client that plays at full speed meanwhile."""
+    def played(self, server: Server, pause: float = 0) -> Iterator[kill_trial.Client]:
+        """A client that plays meanwhile, with a pause of so many seconds after each batch."""
         stop = threading.Event()
-        player = kill_trial.Client(server.address, until_stopped(itertools.repeat((("add", 0, 1),)), stop), server.killed)
+        plan = ((("add", 0, 1),) for _ in itertools.takewhile(lambda _: not stop.wait(pause), itertools.count()))
+        player = kill_trial.Client(server.address, plan, server.killed)
         player.start()
         try:
             yield player
@@ -840,7 +843,7 @@ class Trial:
         for every, is_slow, count in (EVERY[1], False, COPIES), (RARE, True, SLOW_COPIES):
             folder = self.world(ASK)
             with self.serve(folder, every=every) as server:
-                with self.played(server):
+                with self.played(server, LONGER_SECONDS if is_slow else PAUSE_SECONDS):
                     for _ in range(count):
                         to = self.copied_in_play(folder, is_slow)
                 server.end()
