@@ -15,7 +15,8 @@ _worldd() {
         'help '*) words='steps create recover inspect status backup salvage serve' ;;
         'create '*) words='--dir --cells --words --guard --statuses --help' ;;
         'inspect '*) words='--dir --words --refuse-losses --statuses --help' ;;
-        'recover '* | 'status '*) words='--dir --refuse-losses --statuses --help' ;;
+        'recover '*) words='--dir --refuse-losses --statuses --help' ;;
+        'status '*) words='--dir --refuse-losses --check --statuses --help' ;;
         'backup '*) words='--dir --to --refuse-losses --statuses --help' ;;
         'salvage '*) words='--dir --to --statuses --help' ;;
         'serve '*)

@@ -31,6 +31,7 @@ complete -c worldd -n '__fish_seen_subcommand_from inspect' -l statuses -x -a 'p
 complete -c worldd -n '__fish_seen_subcommand_from inspect' -s h -l help -d 'Print help'
 complete -c worldd -n '__fish_seen_subcommand_from status' -l dir -x -a '(__fish_complete_directories)' -d 'The folder of image.a, image.b, log.a and log.b'
 complete -c worldd -n '__fish_seen_subcommand_from status' -l refuse-losses -d 'Refuses files that look as if one was lost; they are only named by default'
+complete -c worldd -n '__fish_seen_subcommand_from status' -l check -d 'Prints also whether the world is well, and has a status for each reason why not'
 complete -c worldd -n '__fish_seen_subcommand_from status' -l statuses -x -a 'plain detailed' -d 'Whether a shortage and a failed listener have statuses of their own, 13 and 10'
 complete -c worldd -n '__fish_seen_subcommand_from status' -s h -l help -d 'Print help'
 complete -c worldd -n '__fish_seen_subcommand_from backup' -l dir -x -a '(__fish_complete_directories)' -d 'The folder of image.a, image.b, log.a and log.b'

@@ -100,6 +100,12 @@ ALWAYS, FAILING_SECONDS = 1_000, 2.7
 FAILED_PLACE, SENT_ON = 12, 10
 # Few images, so that none wakes the writer of the guard.
 RARE = 65_536
+# What is printed of a checked world, and the status. A hang is known after so many seconds, and a world that is well again after
+# fewer.
+WELL, UNGUARDED = ("well", 0), ("well, except that it has no guard to show a hang", 0)
+IMAGES_DOWN, LOG_DOWN, REPLACED = ("images down", 11), ("log down", 12), ("files were removed or replaced", 12)
+NOT_SERVED, HANGS = ("not served", 15), (r"hangs: no sign of life for \d+ seconds", 16)
+HANGS_SECONDS, AGAIN_SECONDS = 10, 3
 
 # Variables of a process, beside those of the trial.
 Variables = dict[str, str]
@@ -187,6 +193,10 @@ CASES = (
     "salvaged without one", "copy taken back", *(f"{command} names an older world" for command in LOOKS), "loss refused",
     "loss accepted", "nothing to accept", "loss not accepted before its guard",
     *(f"{command} refuses what is no guard" for command in (*LOOKS, "serve")), "gone on without one",
+    *(f"checked as {what}" for what in (
+        "well", "unguarded", "not served", "older", "log down", "images down", "replaced", "hung at its log", "stopped", "gone on",
+        "idle",
+    )),
 )
 # What has to be met of each call, and isn't printed.
 CALL_CASES = (
@@ -985,12 +995,90 @@ class Trial:
             self.meet("gone on without one")
         compare("the starts of a new guard", self.serve_on(folder, marks, ASK).starts, 1)
 
+    # 8. Checks of a served world.
+
+    def checked(self, folder: pathlib.Path, what: str, wanted: tuple[str, int], server: str) -> None:
+        """Checks a world. The last lines say this of its server, and how it is."""
+        ended = ran(self.worldd, "status", folder, "--check")
+        *_, line, last = ended.stdout.splitlines()
+        is_so = re.fullmatch(f"check: {wanted[0]}", last) and line == f"server: {server}"
+        want(bool(is_so) and ended.returncode == wanted[1], f"the check of a world that is {what}: {ended}")
+        plain = ran(self.worldd, "status", folder)
+        compare(f"status of a world that is {what}", (plain.returncode, "check:" in plain.stdout), (0, False))
+        self.meet(f"checked as {what}")
+
+    def awaited(self, folder: pathlib.Path, status: int, least: float, most: float) -> None:
+        """Checks a world until it ends with this status, which takes so many seconds at least and at most."""
+        begun = time.monotonic()
+        while ran(self.worldd, "status", folder, "--check").returncode != status:
+            want(time.monotonic() - begun < most, f"a check doesn't end with {status} within {most} seconds")
+            time.sleep(0.1)
+        want(time.monotonic() - begun >= least, f"a check ends with {status} in less than {least} seconds")
+
+    def checks(self) -> None:
+        """A world is checked while its server is well, or down in part, or gone."""
+        folder, marks = self.world(), list[int]()
+        self.checked(folder, "not served", NOT_SERVED, "none")
+        with self.serve(folder):
+            self.checked(folder, "unguarded", UNGUARDED, "running, log up, images up")
+        with self.serve(folder, ASK) as server:
+            client = Client(server, marks)
+            client.play_on(3)
+            self.checked(folder, "well", WELL, "running, log up, images up")
+            copy_files(folder, copies := self.folder())
+            for name in NAMES:
+                os.replace(copies / name, folder / name)
+            time.sleep(NOTICED_SECONDS)
+            self.checked(folder, "replaced", REPLACED, "running, on files that were removed or replaced")
+        for name, place, wanted, parts in (
+            ("log.a", FAILED_PLACE, LOG_DOWN, "log down, images up"), ("image.b", 2, IMAGES_DOWN, "log up, images down"),
+        ):
+            folder = self.world(ASK)
+            variables, _ = self.failing("fdatasync", name, place, errno.EIO)
+            with self.serve(folder, variables=variables) as server:
+                client, end = surroundings_trial.Client(server.address), time.monotonic() + PATIENCE_SECONDS
+                while f"worldd: {wanted[0]}" not in server.errors.read_text():
+                    client.play()
+                    want(time.monotonic() < end, f"no sync of {name} fails")
+                self.checked(folder, wanted[0], wanted, f"running, {parts}")
+        folder, tick, guard = self.older_world(self.chance("checks"))
+        ended = ran(self.worldd, "status", folder, "--check")
+        got = ended.returncode, ended.stderr, ended.stdout.splitlines()[-1]
+        compare("the check of an older world", got, (OLDER, older_line(tick, guard), "check: not served"))
+        self.meet("checked as older")
+
+    def stopped(self) -> None:
+        """A server that is idle is well. One that is stopped hangs, until it goes on."""
+        folder = self.world(ASK)
+        with self.serve(folder) as server:
+            time.sleep(HANGS_SECONDS + AGAIN_SECONDS)
+            self.checked(folder, "idle", WELL, "running, log up, images up")
+            server.process.send_signal(signal.SIGSTOP)
+            self.awaited(folder, HANGS[1], HANGS_SECONDS - AGAIN_SECONDS, HANGS_SECONDS + AGAIN_SECONDS)
+            self.checked(folder, "stopped", HANGS, "running, log up, images up")
+            server.process.send_signal(signal.SIGCONT)
+            self.awaited(folder, WELL[1], 0, AGAIN_SECONDS)
+            self.checked(folder, "gone on", WELL, "running, log up, images up")
+
+    def hung_at_its_log(self) -> None:
+        """A sync of the log never ends: the server hangs while a batch waits, though its other threads run."""
+        folder, marks = self.world(ASK), list[int]()
+        variables, failed = self.failing("fdatasync", "log.a", FAILED_PLACE, NEVER)
+        with self.serve(folder, every=RARE, variables=variables) as server:
+            client = Client(server, marks)
+            while not failed.exists():
+                client.socket.sendall(b"add 0 1\nend\n")
+                time.sleep(0.05)
+            self.awaited(folder, HANGS[1], HANGS_SECONDS - AGAIN_SECONDS, HANGS_SECONDS + AGAIN_SECONDS)
+            self.checked(folder, "hung at its log", HANGS, "running, log up, images up")
+
     def parts(self) -> dict[str, Callable[[], None]]:
         """Every part by its name. The longest are first."""
         parts = (
             self.mixtures, self.failed_calls, self.kills, self.copied_over, self.killed_in_calls, self.forks, self.sampled,
-            self.failed_for_good, self.failed_reads, self.fields, self.copies, self.older, self.accepted, self.damage,
-            self.hung, self.log_down, self.made, self.unasked, self.failed_creation, self.failed_copies,
+            self.stopped, self.hung_at_its_log, self.failed_for_good, self.failed_reads, self.fields, self.copies, self.older,
+            self.accepted, self.damage, self.checks, self.hung, self.log_down, self.made, self.unasked, self.failed_creation,
+            self.failed_copies,
         )
         return {part.__name__: part for part in parts}
 

@@ -6,7 +6,8 @@ use std::sync::atomic::{AtomicU64, Ordering};
 #[derive(Drop)]
 pub struct Pulse {
     sessions: AtomicU64,
-    waiting: AtomicU64,
+    asked: AtomicU64,
+    settled: AtomicU64,
     answered: AtomicU64,
     tick: AtomicU64,
     since: AtomicU64,
@@ -21,6 +22,8 @@ pub struct Counts {
     pub sessions: u64,
     /// How many batches wait for their answer.
     pub waiting: u64,
+    /// How many no longer wait: they were answered by a tick, or by a fault.
+    pub settled: u64,
     /// How many batches were answered by a tick.
     pub answered: u64,
     /// How many ticks have ended. The last ones may not be durable yet.
@@ -38,7 +41,8 @@ impl Pulse {
     pub fn new(acked: u64, image: u64) -> Self {
         Pulse {
             sessions: AtomicU64::new(0),
-            waiting: AtomicU64::new(0),
+            asked: AtomicU64::new(0),
+            settled: AtomicU64::new(0),
             answered: AtomicU64::new(0),
             tick: AtomicU64::new(acked),
             since: AtomicU64::new(0),
@@ -57,12 +61,12 @@ impl Pulse {
 
     /// A session sent a batch.
     pub fn asked(&self) {
-        self.waiting.fetch_add(1, Ordering::SeqCst);
+        self.asked.fetch_add(1, Ordering::SeqCst);
     }
 
     /// A session was answered: by a tick, or by a fault.
     pub fn answered(&self, tick: Option<u64>) {
-        self.waiting.fetch_sub(1, Ordering::SeqCst);
+        self.settled.fetch_add(1, Ordering::SeqCst);
         if let Some(tick) = tick {
             self.answered.fetch_add(1, Ordering::SeqCst);
             raise(&self.acked, tick);
@@ -81,9 +85,12 @@ impl Pulse {
     }
 
     pub fn counts(&self) -> Counts {
+        let settled = self.settled.load(Ordering::SeqCst);
+        let asked = self.asked.load(Ordering::SeqCst);
         Counts {
             sessions: self.sessions.load(Ordering::SeqCst),
-            waiting: self.waiting.load(Ordering::SeqCst),
+            waiting: asked.saturating_sub(settled),
+            settled,
             answered: self.answered.load(Ordering::SeqCst),
             tick: self.tick.load(Ordering::SeqCst),
             since: self.since.load(Ordering::SeqCst),

@@ -17,6 +17,9 @@ use Rattle.world_folder.specs.declared.ending.ServerEnding.TheVariants.{LogDown}
 use Rattle.world_folder.specs.declared.ending.Ending.TheVariants.{Ran, HelpPrinted, Mistaken, Fault}
 use Rattle.world_folder.specs.declared.ending.Ending.TheVariants.{Unreadable, NoWorld, Unfinished}
 use Rattle.world_folder.specs.declared.ending.Ending.TheVariants.{Unlisted, Server, MayBeOlder}
+use Rattle.world_folder.specs.declared.ending.Ending.TheVariants as ending
+use Rattle.world_folder.specs.declared.ending.Unwell.{Unwell}
+use Rattle.world_folder.specs.declared.ending.Unwell.TheVariants as unwell
 use Rattle.world_folder.specs.Fault.{Files, AreRead, Explains, refusal_of}
 use Rattle.world_folder.specs.declared.exit.Statuses.{Statuses}
 use Rattle.world_folder.specs.declared.exit.Statuses.TheVariants.{Plain, Detailed}
@@ -84,6 +87,13 @@ abbrev pub IsStatusOfUnfinished : Statuses → Why → (status : ℕ) → Type 0
 IsStatusOfUnfinished statuses why.NoMemory status = status ≡ shortage_status statuses
 IsStatusOfUnfinished statuses (why.File file) status = IsStatusOfError statuses file.error status
 
+-- the exit status of a command that checks a world which isn't well
+abbrev pub unwell_status : Unwell → ℕ
+unwell_status unwell.ImagesDown = 11
+unwell_status unwell.LogDown = 12
+unwell_status unwell.NotServed = 15
+unwell_status unwell.Hangs = 16
+
 -- the exit status of each way to end
 abbrev pub IsStatusOf : Statuses → Ending → (status : ℕ) → Type 0
 IsStatusOf statuses Ran status = status ≡ 0
@@ -99,6 +109,7 @@ IsStatusOf statuses (Unlisted file) status =
     (file.why ≡ bad.NoMemory → status ≡ shortage_status statuses)
     × (file.why ≢ bad.NoMemory → status ≡ 1)
 IsStatusOf statuses (Server ending) status = IsStatusOfServer statuses ending status
+IsStatusOf statuses (ending.Unwell why) status = status ≡ unwell_status why
 IsStatusOf statuses other status = status ≡ 1
 
 -- it is printed as a fault, with status 1 or 13
@@ -110,6 +121,7 @@ IsFault Mistaken = ⊥
 IsFault (Server ListenerFailed) = ⊥
 IsFault (Server ImagesDown) = ⊥
 IsFault (Server LogDown) = ⊥
+IsFault (ending.Unwell why) = ⊥
 IsFault other = Unit {0}
 
 -- the command did its work, on a world that may be older or not
@@ -117,6 +129,11 @@ abbrev pub IsDone : Ending → Type 0
 IsDone Ran = Unit {0}
 IsDone MayBeOlder = Unit {0}
 IsDone other = ⊥
+
+-- the same of a command that also checks if the world is well
+abbrev pub IsChecked : Ending → Type 0
+IsChecked (ending.Unwell why) = Unit {0}
+IsChecked other = IsDone other
 
 -- How a command ends that did its work on files of which this was found. The world may be older
 -- if it is older than its guard, or if a log may have been lost. Another loss changes nothing.

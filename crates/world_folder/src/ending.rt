@@ -47,6 +47,8 @@ pub enum Ending {
     Stream(StreamFailure),
     /// A server couldn't begin, or has stopped.
     Server(ServerEnding),
+    /// The command did its work, which was to check a served world. It isn't well.
+    Unwell(Unwell),
 }
 
 /// How a server ends that isn't well.
@@ -62,6 +64,19 @@ pub enum ServerEnding {
     ImagesDown,
     /// Its log is down.
     LogDown,
+}
+
+/// Why a world isn't well that is to be served.
+#[derive(Clone, Copy, Debug, PartialEq, Eq)]
+pub enum Unwell {
+    /// The images of its server are down.
+    ImagesDown,
+    /// The log of its server is down, or its files were removed or replaced.
+    LogDown,
+    /// No server is known that serves it.
+    NotServed,
+    /// Its server gives no sign of life.
+    Hangs,
 }
 
 /// A file that isn't closed.

@@ -3,10 +3,10 @@ ghost use Rattle.std.specs.Prelude.{◌≡◌, Some, true, false};
 ghost use Rattle.std.specs.Process.{exit_status};
 ghost use Rattle.world_folder.specs.Ending.{IsStatusOf, IsStatusOfError, IsStatusOfRefusal};
 ghost use Rattle.world_folder.specs.Ending.{IsStatusOfServer, IsStatusOfUnfinished};
-ghost use Rattle.world_folder.specs.Ending.{listener_status, shortage_status};
+ghost use Rattle.world_folder.specs.Ending.{listener_status, shortage_status, unwell_status};
 ghost use Rattle.world_folder.specs.Texts.{fault_text};
 
-use crate::ending::{Ending, ServerEnding, StreamFailure};
+use crate::ending::{Ending, ServerEnding, StreamFailure, Unwell};
 use crate::escaped::Escaped;
 use crate::system_error::{is_shortage, refusal_of};
 use crate::unfinished::Unfinished;
@@ -18,8 +18,8 @@ use world_actions::Refusal;
 /// The exit statuses of a program.
 #[derive(Clone, Copy, Debug, PartialEq, Eq)]
 pub enum Statuses {
-    /// 0, 1 after a fault, 2 for a wrong command line, 11 and 12 of a server, and 14 of a command
-    /// whose world may be older.
+    /// 0, 1 after a fault, 2 for a wrong command line, 11 and 12 of a server, 14 of a command whose
+    /// world may be older, and 11, 12, 15 and 16 of one that checks a world that isn't well.
     Plain,
     /// Beside these 13 after a shortage, and 10 of a server whose listener failed.
     Detailed,
@@ -70,6 +70,19 @@ fn report_ending<R: Eprint>(rt: &R, statuses: Statuses, ending: Ending) -> ExitC
         Ending::Unlisted(file) => report_fault(rt, statuses, file.why.refusal(), file),
         Ending::Stream(failure) => report_stream(rt, failure),
         Ending::Server(ending) => report_server(rt, statuses, ending),
+        Ending::Unwell(why) => unwell_status(why),
+    }
+}
+
+// The exit status of a command that checks a world which isn't well.
+fn unwell_status(why: Unwell) -> ExitCode
+    ensures { exit_status result ≡ unwell_status why }
+{
+    match why {
+        Unwell::ImagesDown => ExitCode::from(11),
+        Unwell::LogDown => ExitCode::from(12),
+        Unwell::NotServed => ExitCode::from(15),
+        Unwell::Hangs => ExitCode::from(16),
     }
 }
 

@@ -108,6 +108,32 @@ fn place_guard<R: Files<File = File> + AllocGlobal>(
     File::open(rt, folder)?.sync_all()
 }
 
+/// Gives the guard in a folder the time that it is now, by which its server is known to run on.
+pub fn touch_guard<R: Files<File = File> + Clock + AllocGlobal>(
+    rt: &R,
+    folder: &str,
+) -> io::Result<()> {
+    let path = path_in(rt, folder, GUARD)?;
+    if !fs::metadata(rt, path.as_path())?.is_file() {
+        return Err(io::Error::other(NO_GUARD));
+    }
+    let now = match SystemTime::now(rt) {
+        Ok(now) => now,
+        Err(_) => return Err(io::Error::from(ErrorKind::Unsupported)),
+    };
+    File::open(rt, path.as_path())?.set_modified(now)
+}
+
+/// How many seconds ago the guard in a folder was written or touched, if it has one.
+pub fn guard_age<R: Files<File = File> + Clock + AllocGlobal>(rt: &R, folder: &str) -> Option<u64> {
+    let path = path_in(rt, folder, GUARD).ok()?;
+    let touched = fs::metadata(rt, path.as_path()).ok()?.modified().ok()?;
+    match SystemTime::now(rt).ok()?.duration_since(touched) {
+        Ok(passed) => Some(passed.as_secs()),
+        Err(_) => Some(0),
+    }
+}
+
 /// Refuses to make a world in a folder that has the guard of another one.
 pub fn unguarded<R: Files<File = File> + AllocGlobal>(rt: &R, folder: &str) -> Result<(), Ending>
     ensures fault { IfErr result IsFault }

@@ -39,7 +39,7 @@ mod world_file;
 pub use checked::{Checked, NotRecovered, recover_checked};
 pub use creating::{create, create_listed, create_of_words, create_zeros};
 pub use ending::{
-    Ending, Filled, Inside, NoPort, Occupied, ServerEnding, Stream, StreamFailure, Unlisted,
+    Ending, Filled, Inside, NoPort, Occupied, ServerEnding, Stream, StreamFailure, Unlisted, Unwell,
 };
 pub use entry::{Entry, FileKind, Identity};
 pub use escaped::Escaped;
@@ -49,7 +49,8 @@ pub use folders::{Folder, Reading, WorldDisk};
 pub use found::{FoundReport, WorldReport};
 pub use guard::{GUARD, Guard, Older};
 pub use guard_file::{
-    checks_in, guarded, new_guard, put_guard, read_guard, remove_guard, seconds_now,
+    checks_in, guard_age, guarded, new_guard, put_guard, read_guard, remove_guard, seconds_now,
+    touch_guard,
 };
 pub use laws::{copies_are_of_a_moment, sound_files_have_no_gap};
 pub use locks::{LockState, lock};

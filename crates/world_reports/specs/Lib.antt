@@ -16,3 +16,4 @@ pub mod Verified
 pub mod TakingBack
 pub mod Looks
 pub mod Tried
+pub mod Health

@@ -36,14 +36,13 @@ pub record AreFiguresReported (checks : Checks) (ending : Ending)
   pub ends : ending ≡ ending_of world.found.finding
 
 -- the locks were asked for, and what they say was printed
-pub record IsServerReported (before after : List Act) : Type 0 where
-  pub reported : ServerReport
+pub record IsServerReported (reported : ServerReport) (before after : List Act) : Type 0 where
   pub acts : List Act
   pub is_reported : IsServerReport reported before acts
   pub printed : after ≡ Printed (server_text reported) ∷ acts
 
-pub record IsStatusReported (checks : Checks) (ending : Ending)
+pub record IsStatusReported (checks : Checks) (ending : Ending) (server : ServerReport)
     (before after : List Act) : Type 0 where
   pub acts : List Act
   pub figures : AreFiguresReported checks ending before acts
-  pub server : IsServerReported acts after
+  pub server_reported : IsServerReported server acts after

@@ -43,8 +43,9 @@ pub fn back_up<R: Files<File = File> + Clock + Print + Eprint + AllocGlobal>(
     Ok(ending)
 }
 
-// Gives a copy the guard of its world, as it was before the copy was begun: the copy has all ticks
-// up to the guard's, or is older too. If that fails, the files of the copy are removed, or named.
+// Gives a copy the guard of its world, as it was before the copy was begun. The copy has all ticks
+// up to the guard's, unless its world hasn't. If that fails, the files of the copy are removed, or
+// named.
 fn copy_guard<R: Files<File = File> + AllocGlobal, T: Folder>(
     rt: &R,
     into: &mut T,

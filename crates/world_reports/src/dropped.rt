@@ -22,7 +22,7 @@ impl Dropped {
     ghost use Rattle.world_folder.specs.Ending.{IsDone};
     ghost use Rattle.world_reports.specs.Dropped.{dropped_of, is_any, ending_of};
 
-    /// What is dropped of files with these bytes, of which those that were lost have none.
+    /// The parts that are dropped of files with these bytes. A lost file has no bytes.
     pub fn of(lost: &FourFiles<bool>, files: &FourFiles<Vec<u8>>, salvaged: &Salvaged) -> Self
         ensures { result ≡ dropped_of lost.now files.now salvaged.now }
     {

@@ -1,6 +1,6 @@
 //! Figures of a world, by what its files hold.
-ghost use Rattle.std.specs.Prelude.{◌≡◌, IsTrue, IfOk, IfErr, OnOk, Some};
-ghost use Rattle.world_folder.specs.Ending.{IsDone, IsFault};
+ghost use Rattle.std.specs.Prelude.{◌≡◌, IsTrue, IfOk, IfErr, Some, OnOk, false};
+ghost use Rattle.world_folder.specs.Ending.{IsChecked, IsDone, IsFault};
 ghost use Rattle.world_reports.specs.StatusReport.{IsStatusReported, IsServerReported};
 ghost use Rattle.world_reports.specs.StatusReport.{AreFiguresReported, with_guard};
 ghost use Rattle.world_reports.specs.FileReports.{IsLogReport};
@@ -10,9 +10,10 @@ ghost use Rattle.world_reports.specs.Texts.{guard_text, total_of};
 
 use crate::counted::Counted;
 use crate::file_reports::{LogReport, report_log};
+use crate::health::{health_of, report_health};
 use crate::looking::look_for_world;
 use crate::recovering::{warn_of, warn_of_failed};
-use crate::served::server_in;
+use crate::served::{ServerReport, server_in};
 use action_log::SEGMENT_TICKS;
 use disk_model::FourFiles;
 use recovery::{Recovered, Slot};
@@ -23,7 +24,7 @@ use std::time::Clock;
 use world_actions::Refusal;
 use world_folder::{
     Checks, Ending, Folder, FoundReport, Guard, IMAGE_A, IMAGE_B, LOG_A, LOG_B, OnLoss, Reading,
-    SystemFolder, WorldReport, checks_in,
+    SystemFolder, WorldReport, checks_in, guard_age,
 };
 
 /// Figures of a world.
@@ -74,18 +75,28 @@ fn opened_segment(log: LogReport) -> Option<(u64, usize)>
     }
 }
 
-/// Prints the figures of the world in a folder of the system, as `report_status` does.
+/// Prints the figures of the world in a folder of the system, as `report_status` does. If it also
+/// checks the world, it prints whether the world is well, and ends by that.
 pub fn status<R: Files<File = File> + Clock + Print + Eprint + AllocGlobal>(
     rt: &R,
     folder: &str,
     on_loss: OnLoss,
+    checks_health: bool,
 ) -> Result<Ending, Ending>
-    ensures done { IfOk result IsDone }
+    ensures done { checks_health ≡ false → IfOk result IsDone }
+    ensures checked { IfOk result IsChecked }
     ensures fault { IfErr result IsFault }
 {
     let mut system = SystemFolder::new(rt, folder);
     match checks_in(rt, folder, on_loss) {
-        Ok(checks) => report_status(rt.alloc(), &mut system, folder, checks),
+        Ok(checks) => {
+            let (ending, server) = report_status(rt.alloc(), &mut system, folder, checks)?;
+            if !checks_health {
+                return Ok(ending);
+            }
+            let health = health_of(server, guard_age(rt, folder));
+            report_health(&mut system, health, ending)
+        }
         Err(ending) => {
             print_server(&mut system)?;
             Err(ending)
@@ -95,31 +106,32 @@ pub fn status<R: Files<File = File> + Clock + Print + Eprint + AllocGlobal>(
 
 /// Prints the figures of the world in the folder at this path, which a server may write meanwhile,
 /// and then whether one does. On standard error it names what was lost. If the files hold no world,
-/// only the last line is printed. It returns how the command ends.
+/// only the last line is printed. It returns how the command ends, and what is known of the server.
 pub fn report_status<F: Folder>(
     alloc: Global,
     folder: &mut F,
     path: &str,
     checks: Checks,
-) -> Result<Ending, Ending>
-    ensures reported { IsTrue F.honest → IsTrue F.File.honest → IfOk result (λ ending.
-        IsStatusReported checks ending (F.history folder.old) (F.history folder.new)) }
-    ensures done { IfOk result IsDone }
+) -> Result<(Ending, ServerReport), Ending>
+    ensures reported { IsTrue F.honest → IsTrue F.File.honest → IfOk result (λ reported.
+        IsStatusReported checks reported.0 reported.1 (F.history folder.old)
+        (F.history folder.new)) }
+    ensures done { IfOk result (λ reported. IsDone reported.0) }
     ensures fault { IfErr result IsFault }
 {
     let printed = print_figures(alloc, folder, path, checks);
-    print_server(folder)?;
-    printed
+    let server = print_server(folder)?;
+    Ok((printed?, server))
 }
 
-fn print_server<F: Folder>(folder: &mut F) -> Result<(), Ending>
-    ensures reported { IsTrue F.honest
-        → OnOk result (IsServerReported (F.history folder.old) (F.history folder.new)) }
+fn print_server<F: Folder>(folder: &mut F) -> Result<ServerReport, Ending>
+    ensures reported { IsTrue F.honest → IfOk result (λ server.
+        IsServerReported server (F.history folder.old) (F.history folder.new)) }
     ensures fault { IfErr result IsFault }
 {
     let reported = server_in(folder)?;
     folder.print(reported)?;
-    Ok(())
+    Ok(reported)
 }
 
 fn print_figures<F: Folder>(

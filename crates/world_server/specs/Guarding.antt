@@ -1,6 +1,7 @@
 -- The guards that a server writes, one after the other.
 use Rattle.std.specs.Prelude.{◌≡◌, ◌≤◌, ◌<◌, ◌+◌, ℕ, Bool, ◌||◌, nat_lt, max, Option, Some, None}
-use Rattle.std.specs.Prelude.{if◌then◌else◌}
+use Rattle.std.specs.Prelude.{if◌then◌else◌, ◌==◌}
+use Rattle.client_service.specs.declared.pulse.Counts.{Counts}
 use Rattle.world_folder.specs.declared.guard.Guard.{Guard}
 
 -- the guard after this one, if the acknowledged tick or the tick of the image is greater, or if a
@@ -29,3 +30,7 @@ pub record IsStarted (was : Option Guard) (tick image : ℕ) (guard : Guard) : T
   pub acked_is : guard.acked ≡ tick
   pub image_is : guard.image ≡ image
   pub starts_after : StartsAfter was tick guard
+
+-- a server goes on: no batch waits, or more were settled than before
+abbrev pub goes_on : (settled : ℕ) → Counts → Bool
+goes_on settled now = (now.waiting == 0) || nat_lt settled now.settled

@@ -10,17 +10,18 @@ use Rattle.client_service.specs.declared.accept.Closed.{Closed}
 use Rattle.client_service.specs.declared.accept.Closed.TheVariants as closed
 use Rattle.world_folder.specs.declared.ending.Ending.{Ending}
 use Rattle.world_folder.specs.declared.ending.Ending.TheVariants.{Ran, HelpPrinted, Mistaken, Fault}
-use Rattle.world_folder.specs.declared.ending.Ending.TheVariants.{MayBeOlder, Server}
+use Rattle.world_folder.specs.declared.ending.Ending.TheVariants.{MayBeOlder, Server, Unwell}
 use Rattle.world_folder.specs.declared.ending.ServerEnding.TheVariants.{ListenerFailed, ImagesDown}
 use Rattle.world_folder.specs.declared.ending.ServerEnding.TheVariants.{LogDown}
 use Rattle.world_server.specs.declared.standing.Losses.{Losses}
 
--- A server ran to its end, or a fault or a failure ended it. No command line ends it, and no older
--- world.
+-- A server ran to its end, or a fault or a failure ended it. No command line ends it, no older
+-- world, and no check of one.
 abbrev pub EndsServing : Ending → Type 0
 EndsServing HelpPrinted = ⊥
 EndsServing Mistaken = ⊥
 EndsServing MayBeOlder = ⊥
+EndsServing (Unwell why) = ⊥
 EndsServing ending = Unit {0}
 
 -- how a server ends that is left: by its log, else by its images, else by its listener; else well

@@ -2,6 +2,7 @@
 ghost use Rattle.std.specs.Prelude.{◌≡◌, ◌++◌, ◌∷◌, [], ℕ, Ok, None, Some, true, false, IfErr};
 ghost use Rattle.world_server.specs.Guarding.{next_guard, IsStarted};
 
+use crate::heartbeat::Heartbeat;
 use crate::runtime::LookUp;
 use crate::standing::{is_overdue, passed_since};
 use shared_capture::SignalIn;
@@ -20,6 +21,8 @@ const APART_SECONDS: u32 = 1;
 pub struct GuardKeeper {
     /// The world's folder.
     pub folder: PathBuf,
+    /// The signs of life between the writes.
+    pub heartbeat: Heartbeat,
     /// The guard that was written last, or at the start was to be.
     pub written: Guard,
     /// Loads the greatest acknowledged tick.

@@ -9,6 +9,7 @@
 mod acked;
 mod front;
 mod guarding;
+mod heartbeat;
 mod kept;
 mod line;
 mod lines;

@@ -40,7 +40,7 @@ pub struct Lines<R: Wait + Clock + Net + Copy> {
     pub exit_when_closed: Option<u32>,
     /// The time since which no more can come, in the thread that accepts them.
     pub closed_at: Option<Instant>,
-    /// The counts of the server, if its figures are printed.
+    /// The counts of the server, if its figures are printed or its world has a guard.
     pub pulse: Option<Arc<Pulse, Global>>,
     /// The pace of the image files.
     pub pace: Pace,

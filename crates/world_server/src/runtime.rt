@@ -2,7 +2,8 @@
 use std::fs::{self, File, Files};
 use std::io;
 use std::thread::Threads;
-use world_folder::{Entry, Guard, put_guard};
+use std::time::Clock;
+use world_folder::{Entry, Guard, put_guard, touch_guard};
 
 /// The handles that a server needs beside those that its threads get. The kit wants these in the
 /// bounds of each function, from the program's first on.
@@ -18,6 +19,9 @@ pub trait LookUp {
 
     /// Puts a guard into the folder at a path, whole and durably.
     fn put_guard(&self, folder: &str, guard: &Guard) -> io::Result<()>;
+
+    /// Gives the guard in the folder at a path the time that it is now.
+    fn touch_guard(&self, folder: &str) -> io::Result<()>;
 }
 
 impl LookUp for HostRuntime {
@@ -27,5 +31,9 @@ impl LookUp for HostRuntime {
 
     fn put_guard(&self, folder: &str, guard: &Guard) -> io::Result<()> {
         put_guard(self, folder, guard)
+    }
+
+    fn touch_guard(&self, folder: &str) -> io::Result<()> {
+        touch_guard(self, folder)
     }
 }

@@ -20,6 +20,7 @@ use worker_threads::Seats;
 use world_actions::Refusal;
 use world_folder::{
     Checks, Ending, Fault, NotRecovered, OnLoss, failure_of, open_existing, read_guard, stands_in,
+    touch_guard,
 };
 
 /// Serves the world in a folder to so many clients. It prints which world was recovered, where it
@@ -64,6 +65,10 @@ fn serve_by<
 {
     let mut files = open_existing(rt, service.folder)?;
     let guard = read_guard(rt, service.folder)?;
+    if guard.is_some() {
+        // A start counts as a sign of life.
+        let _ = touch_guard(rt, service.folder);
+    }
     let pace = pace_images(rt.alloc(), &mut files)?;
     let valve = valve_logs(rt.alloc(), &mut files)?;
     let mut front = SystemFront::start(rt, service, guard, pace, valve)?;

@@ -6,6 +6,7 @@ ghost use Rattle.world_server.specs.Serving.{EndsServing};
 use crate::acked::AckedOut;
 use crate::front::Front;
 use crate::guarding::{GuardKeeper, started_guard};
+use crate::heartbeat::Heartbeat;
 use crate::kept::kept_files;
 use crate::line::Line;
 use crate::lines::Lines;
@@ -226,14 +227,14 @@ fn lines_of<R: Wait + Clock + LookUp + Net + Files<File = File> + AllocGlobal + 
     ensures { IfErr result IsFault }
 {
     let alloc = front.rt.alloc();
-    let pulse = pulse_for(&front.rt, &front.reports, world)?;
+    let pulse = pulse_for(front, world)?;
     let files = kept_files(alloc, front.service.folder, &world.images, &world.log)?;
     let Ok(files) = Arc::new(alloc, files) else {
         return Err(Ending::Fault(Refusal::NoMemory));
     };
     let (wake, woken) = bounded(alloc, 1)?;
     let (done, guarded) = bounded(alloc, 1)?;
-    let (acked, guard) = guard_for(front, streams, world)?;
+    let (acked, guard) = guard_for(front, streams, world, &pulse)?;
     let service = &front.service;
     let is_guarded = guard.is_some();
     if let Some(watchdog) = &front.watchdog {
@@ -285,11 +286,15 @@ fn guard_for<R: Wait + Clock + LookUp + Net + Files<File = File> + AllocGlobal +
     front: &SystemFront<'_, R>,
     streams: &Streams,
     world: &Opened<M, FileDisk>,
+    pulse: &Option<Arc<Pulse, Global>>,
 ) -> Result<Guarded, Ending>
     ensures { IfErr result IsFault }
 {
     let (rt, service) = (&front.rt, &front.service);
-    if front.guard.is_none() && !service.guards {
+    let Some(pulse) = pulse else {
+        return Ok((None, None));
+    };
+    if !is_guarded(front) {
         return Ok((None, None));
     }
     let tick = world.ended;
@@ -309,6 +314,7 @@ fn guard_for<R: Wait + Clock + LookUp + Net + Files<File = File> + AllocGlobal +
     };
     let keeper = GuardKeeper {
         folder: path_of(rt.alloc(), service.folder, "")?,
+        heartbeat: Heartbeat::new(pulse.clone()?),
         written: guard,
         acked,
         tried_at: None,
@@ -332,22 +338,28 @@ fn newest_image<D: Disk>(images: &ImageWriter<D>) -> u64
     }
 }
 
-// The counts of the server of this world, if its figures are printed. Their thread
-// begins with them.
-fn pulse_for<R: Wait + AllocGlobal, M: Method>(
-    rt: &R,
-    reports: &Option<Sender<Arc<Pulse, Global>>>,
+// True if the world of a server has a guard, or gets one.
+fn is_guarded<R: Wait + Clock + Net + Files + Copy>(front: &SystemFront<'_, R>) -> bool {
+    front.guard.is_some() || front.service.guards
+}
+
+// The counts of the server of this world, if its figures are printed or it has a guard. The thread
+// of the figures begins with them.
+fn pulse_for<R: Wait + Clock + Net + Files + AllocGlobal + Copy, M: Method>(
+    front: &SystemFront<'_, R>,
     world: &Opened<M, FileDisk>,
 ) -> Result<Option<Arc<Pulse, Global>>, Ending>
     ensures { IfErr result IsFault }
 {
-    let Some(reports) = reports else {
+    if front.reports.is_none() && !is_guarded(front) {
         return Ok(None);
-    };
-    let Ok(pulse) = Arc::new(rt.alloc(), pulse_of(world)) else {
+    }
+    let Ok(pulse) = Arc::new(front.rt.alloc(), pulse_of(world)) else {
         return Err(Ending::Fault(Refusal::NoMemory));
     };
-    let _ = reports.try_send(rt, pulse.clone()?);
+    if let Some(reports) = &front.reports {
+        let _ = reports.try_send(&front.rt, pulse.clone()?);
+    }
     Ok(Some(pulse))
 }
 

@@ -1,4 +1,5 @@
-//! A thread that looks at a running server twice a second, and writes the guard of its world.
+//! A thread that looks at a running server twice a second, writes the guard of its world, and gives
+//! signs of life.
 
 use crate::guarding::GuardKeeper;
 use crate::kept::KeptFile;
@@ -118,14 +119,17 @@ impl Watched {
             || self.files.log_b.is_missed()
     }
 
-    // Writes the guard, if it is due and all files have their names.
+    // Writes the guard and gives a sign of life, if that is due and all files have their names.
     fn look_at_guard<R: Wait + Clock + LookUp>(&mut self, rt: &R) {
         if self.is_file_missed() {
             return;
         }
         let image = self.standing.image();
         let failed = match &mut self.guard {
-            Some(guard) => guard.look(rt, image),
+            Some(guard) => {
+                guard.heartbeat.look(rt, guard.folder.as_str());
+                guard.look(rt, image)
+            }
             None => None,
         };
         self.note_failed(rt, failed);

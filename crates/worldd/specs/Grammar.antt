@@ -96,6 +96,9 @@ create_rules =
 abbrev pub report_rules : List Rule
 report_rules = folder_rule ∷ losses_rule ∷ []
 
+abbrev pub check_rules : List Rule
+check_rules = report_rules ++ flag_rule (codes "check") ∷ []
+
 abbrev pub inspect_rules : List Rule
 inspect_rules = folder_rule ∷ flag_rule (codes "words") ∷ losses_rule ∷ []
 
@@ -191,7 +194,7 @@ grammar words =
     ∷ (codes "create", create_rules ++ statuses_rule words.create ∷ [])
     ∷ (codes "recover", report_rules ++ statuses_rule words.recover ∷ [])
     ∷ (codes "inspect", inspect_rules ++ statuses_rule words.inspect ∷ [])
-    ∷ (codes "status", report_rules ++ statuses_rule words.status ∷ [])
+    ∷ (codes "status", check_rules ++ statuses_rule words.status ∷ [])
     ∷ (codes "backup", backup_rules ++ statuses_rule words.backup ∷ [])
     ∷ (codes "salvage", salvage_rules ++ statuses_rule words.salvage ∷ [])
     ∷ (codes "serve", serve_rules words.methods words.modes ++ statuses_rule words.serve ∷ []) ∷ []

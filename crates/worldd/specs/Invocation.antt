@@ -51,9 +51,10 @@ AsksTo name found (Inspect folder words on_loss) =
     (name ≡ codes "inspect") × (first_value found (codes "dir") ≡ Some folder.now)
     × HasFlag found (codes "words") words
     × HasFlag found (codes "refuse-losses") (refuses on_loss)
-AsksTo name found (Status folder on_loss) =
+AsksTo name found (Status folder on_loss checks) =
     (name ≡ codes "status") × (first_value found (codes "dir") ≡ Some folder.now)
     × HasFlag found (codes "refuse-losses") (refuses on_loss)
+    × HasFlag found (codes "check") checks
 AsksTo name found (BackUp folder to on_loss) =
     (name ≡ codes "backup") × (first_value found (codes "dir") ≡ Some folder.now)
     × (first_value found (codes "to") ≡ Some to.now)

@@ -9,7 +9,8 @@ ghost use Rattle.world_actions.specs.declared.world.TheConstants.{CELLS as world
 ghost use Rattle.worldd.specs.Grammar.{value_rule, needed_rule, number_rule, flag_rule};
 ghost use Rattle.worldd.specs.Grammar.{folder_rule, guard_rule, losses_rule, statuses_rule};
 ghost use Rattle.worldd.specs.Grammar.{status_words};
-ghost use Rattle.worldd.specs.Grammar.{report_rules, inspect_rules, backup_rules, salvage_rules};
+ghost use Rattle.worldd.specs.Grammar.{report_rules, inspect_rules, check_rules};
+ghost use Rattle.worldd.specs.Grammar.{backup_rules, salvage_rules};
 ghost use Rattle.worldd.specs.Grammar.{HasStatuses, IsChoice};
 ghost use Rattle.worldd.specs.Grammar.{IsArgument, IsSomeOf, IsCreate, HasArguments};
 ghost use Rattle.worldd.specs.Grammar.{HasCommands, HasGrammar};
@@ -47,6 +48,9 @@ pub const GUARD: &str = "guard";
 /// The name of the flag by which a loss is refused.
 const REFUSE_LOSSES: &str = "refuse-losses";
 
+/// The name of the flag by which a world is checked.
+pub const CHECK: &str = "check";
+
 /// The name of the group of the number of cells and the words.
 const CONTENT: &str = "content";
 
@@ -76,10 +80,7 @@ fn commands<'a>(alloc: Global) -> Result<Command<'a>, AllocError>
             report_command(alloc, "recover", RECOVER_ABOUT, RECOVER_HELP)?,
         )?)?
         .subcommand(with_statuses(alloc, inspect_command(alloc)?)?)?
-        .subcommand(with_statuses(
-            alloc,
-            report_command(alloc, "status", STATUS_ABOUT, STATUS_HELP)?,
-        )?)?
+        .subcommand(with_statuses(alloc, status_command(alloc)?)?)?
         .subcommand(with_statuses(alloc, backup_command(alloc)?)?)?
         .subcommand(with_statuses(alloc, salvage_command(alloc)?)?)?
         .subcommand(with_statuses(alloc, serve_command(alloc)?)?)
@@ -167,6 +168,12 @@ fn inspect_command<'a>(alloc: Global) -> Result<Command<'a>, AllocError>
         .arg(losses_argument(alloc))
 }
 
+fn status_command<'a>(alloc: Global) -> Result<Command<'a>, AllocError>
+    ensures { IfOk result (HasArguments (codes "status") check_rules []) }
+{
+    report_command(alloc, "status", STATUS_ABOUT, STATUS_HELP)?.arg(check_argument(alloc))
+}
+
 fn backup_command<'a>(alloc: Global) -> Result<Command<'a>, AllocError>
     ensures { IfOk result (HasArguments (codes "backup") backup_rules []) }
 {
@@ -239,6 +246,13 @@ fn words_argument<'a>(alloc: Global) -> Arg<'a>
 {
     let help = "Prints the words of the world too, on a line of their own";
     flag_argument(alloc, WORDS, help)
+}
+
+fn check_argument<'a>(alloc: Global) -> Arg<'a>
+    ensures { IsArgument (flag_rule (codes "check")) result }
+{
+    let help = "Prints also whether the world is well, and has a status for each reason why not";
+    flag_argument(alloc, CHECK, help)
 }
 
 // The argument for the exit statuses.

@@ -94,7 +94,13 @@ At 65536 ticks in a segment batches are refused with 6: its server writes no ima
 last line is `server: none` if no program writes the world, and `server: unknown` if this
 user can't read image.a. A log or images may be `down`, which lasts up to the server's
 end. If the files hold no world this line is all, and it ends as `recover` does, and as
-`backup` if no copy can be taken.";
+`backup` if no copy can be taken.
+With --check it prints one line more. Its status is the one of that line, if it would be 0
+without it:
+  0 check: well      11 check: images down      12 check: log down
+  12 check: files were removed or replaced      15 check: not served, or unknown
+  16 check: hangs: no sign of life for S seconds
+After ten seconds without one it hangs. Without a guard that isn't known.";
 
 /// The end of `worldd backup --help`.
 pub const BACKUP_HELP: &str = "\

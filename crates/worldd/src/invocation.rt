@@ -5,7 +5,7 @@ ghost use Rattle.clap.specs.Words.{first_value, found_of, subcommand_name_of};
 ghost use Rattle.worldd.specs.declared.invocation.Invocation.{Invocation as AnInvocation};
 ghost use Rattle.worldd.specs.Invocation.{IsCommand, IsPossible, AsksForCells, AsksTo};
 
-use crate::arguments::{CELLS, FOLDER, GUARD, TO, WORDS, number_of, on_loss_of};
+use crate::arguments::{CELLS, CHECK, FOLDER, GUARD, TO, WORDS, number_of, on_loss_of};
 use clap::ArgMatches;
 use world_folder::OnLoss;
 
@@ -37,9 +37,11 @@ pub enum Invocation<'a> {
         words: bool,
         on_loss: OnLoss,
     },
+    /// The world is checked too if that is asked for.
     Status {
         folder: &'a str,
         on_loss: OnLoss,
+        checks: bool,
     },
     BackUp {
         folder: &'a str,
@@ -90,6 +92,7 @@ fn invocation_in<'a>(name: &str, given: &ArgMatches<'a>) -> Option<Invocation<'a
         "status" => Some(Invocation::Status {
             folder,
             on_loss: on_loss_of(given),
+            checks: given.get_flag(CHECK),
         }),
         "backup" => Some(Invocation::BackUp {
             folder,

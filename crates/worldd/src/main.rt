@@ -9,9 +9,9 @@
 //! The status is 0 if the run ended well, 2 for a wrong command line, and 1 after a fault. Standard
 //! error then has `fault CODE`, and the reason on the next line. A server ends with 12 if its log
 //! is down, and with 11 if its images are. A command that did its work ends with 14 if ticks that
-//! were answered may be missing from the world that it found. With `--statuses detailed` it is 13
-//! after a fault by a shortage of memory, threads or room on a disk, and 10 of a server whose
-//! listener failed.
+//! were answered may be missing from the world that it found. `status --check` ends with 11, 12, 15
+//! or 16 if the world isn't well. With `--statuses detailed` it is 13 after a fault by a shortage
+//! of memory, threads or room on a disk, and 10 of a server whose listener failed.
 #![tactic(auto)]
 
 ghost use Rattle.std.specs.Prelude.{◌≡◌, IfSome, IfNone};
@@ -100,7 +100,11 @@ fn run<R: Input + Print + Eprint + Clock + Files<File = File> + AllocGlobal + Cl
             words,
             on_loss,
         } => Ending::of_either(inspect(rt, folder, words, on_loss)),
-        Invocation::Status { folder, on_loss } => Ending::of_either(status(rt, folder, on_loss)),
+        Invocation::Status {
+            folder,
+            on_loss,
+            checks,
+        } => Ending::of_either(status(rt, folder, on_loss, checks)),
         Invocation::BackUp {
             folder,
             to,

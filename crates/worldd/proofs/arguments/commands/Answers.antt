@@ -2,7 +2,7 @@ use Rattle.std.proofs.Common.{[], ◌∷◌, codes}
 use Rattle.std.proofs.lemmas.Result.{IfOk-weaker}
 use Rattle.clap.specs.Words.{AddsSubcommand}
 use Rattle.clap.specs.declared.builder.command.Command.{Command}
-use Rattle.worldd.specs.Grammar.{HasGrammar, backup_rules, create_rules, inspect_rules, report_rules, salvage_rules, serve_rules}
+use Rattle.worldd.specs.Grammar.{HasGrammar, backup_rules, check_rules, create_rules, inspect_rules, report_rules, salvage_rules, serve_rules}
 use Rattle.worldd.proofs.GrammarLemmas.{command_added}
 use Rattle.worldd.proofs.arguments.commands.Goals as goal
 
@@ -15,7 +15,7 @@ returns c =
     let create_words = c.in_ok-with_statuses-2.ensures (codes "create") create_rules (create_group ∷ []) c.in_ok-create_command.ensures.2 in
     let recover_words = c.in_ok-with_statuses-3.ensures (codes "recover") report_rules [] c.in_ok-report_command.ensures in
     let inspect_words = c.in_ok-with_statuses-4.ensures (codes "inspect") inspect_rules [] c.in_ok-inspect_command.ensures in
-    let status_words = c.in_ok-with_statuses-5.ensures (codes "status") report_rules [] c.in_ok-report_command-2.ensures in
+    let status_words = c.in_ok-with_statuses-5.ensures (codes "status") check_rules [] c.in_ok-status_command.ensures in
     let backup_words = c.in_ok-with_statuses-6.ensures (codes "backup") backup_rules [] c.in_ok-backup_command.ensures in
     let salvage_words = c.in_ok-with_statuses-7.ensures (codes "salvage") salvage_rules [] c.in_ok-salvage_command.ensures in
     let serve_words = c.in_ok-with_statuses-8.ensures (codes "serve") (serve_rules serves.0 serves.1) serve_groups serves.4.4 in
