@@ -18,8 +18,8 @@ use world_actions::Refusal;
 /// The exit statuses of a program.
 #[derive(Clone, Copy, Debug, PartialEq, Eq)]
 pub enum Statuses {
-    /// 0, 1 after a fault, 2 for a wrong command line, 11 and 12 of a server, 14 of a command whose
-    /// world may be older, and 11, 12, 15 and 16 of one that checks a world that isn't well.
+    /// 0, 1 after a fault, and 2 for a wrong command line. A server also has 11 and 12, a command
+    /// whose world may be older 14, and a check of a world that isn't well 11, 12, 15 and 16.
     Plain,
     /// Beside these 13 after a shortage, and 10 of a server whose listener failed.
     Detailed,

@@ -12,7 +12,7 @@ use std::io::{self, ErrorKind};
 use std::process::{ExitCode, Termination};
 use std::test::Fail;
 use world_actions::Refusal;
-use world_folder::{Ending, Exit, OnLoss, ServerEnding, Statuses};
+use world_folder::{Ending, Exit, OnLoss, ServerEnding, Statuses, Unwell};
 use world_server::{Clients, Every};
 
 // Keeps all that is printed.
@@ -129,16 +129,35 @@ fn faults_are_reported_by_code_and_in_words(rt: HostRuntime) {
 fn what_is_down_is_reported_by_the_status(rt: HostRuntime) {
     for (ending, statuses, code, text) in [
         (
-            ServerEnding::ListenerFailed,
+            Ending::Server(ServerEnding::ListenerFailed),
             Statuses::Plain,
             1,
             "fault 18\nworldd: the listener failed\n",
         ),
-        (ServerEnding::ListenerFailed, Statuses::Detailed, 10, ""),
-        (ServerEnding::ImagesDown, Statuses::Plain, 11, ""),
-        (ServerEnding::LogDown, Statuses::Plain, 12, ""),
+        (
+            Ending::Server(ServerEnding::ListenerFailed),
+            Statuses::Detailed,
+            10,
+            "",
+        ),
+        (
+            Ending::Server(ServerEnding::ImagesDown),
+            Statuses::Plain,
+            11,
+            "",
+        ),
+        (
+            Ending::Server(ServerEnding::LogDown),
+            Statuses::Plain,
+            12,
+            "",
+        ),
+        (Ending::Unwell(Unwell::ImagesDown), Statuses::Plain, 11, ""),
+        (Ending::Unwell(Unwell::LogDown), Statuses::Plain, 12, ""),
+        (Ending::Unwell(Unwell::NotServed), Statuses::Plain, 15, ""),
+        (Ending::Unwell(Unwell::Hangs), Statuses::Plain, 16, ""),
     ] {
-        let (status, errors) = reported(rt.alloc(), Ending::Server(ending), statuses);
+        let (status, errors) = reported(rt.alloc(), ending, statuses);
         assert!(rt;
             status == ExitCode::from(code) && errors.as_str() == text,
             "{errors}"
