@@ -2,6 +2,7 @@
 files recover to, which bytes a new world, a start and a batch leave, and what is printed of files."""
 import itertools
 import struct
+from collections.abc import Iterator
 from typing import NamedTuple
 
 from kill_trial import LIMIT, Batch, Request, changes
@@ -153,7 +154,8 @@ def recovery_of(files: Files) -> Found | Refused:
 
 def losses(files: Files, found: Found, refuses: bool) -> list[Refused]:
     """The files of a world that look lost, in order, and how each is refused: no crash of a served world leaves them so. An empty
-    log counts beside an image of a tick above 0 or, if losses are refused, once a tick is recovered."""
+    log counts beside an image of a tick above 0 or, if losses are refused, once a tick is recovered. Files that are closed as no
+    crash leaves them come last."""
     lost = list[Refused]()
     for name, data in zip(NAMES, files):
         is_image = name.startswith("image")
@@ -162,7 +164,32 @@ def losses(files: Files, found: Found, refuses: bool) -> list[Refused]:
             lost.append(Refused(code, why, f"{what} file is damaged: {name} is empty, so it was lost"))
         elif not is_image and (log := segment_of(data)) and log.base > found.tick:
             lost.append(Refused(code, "gap", f"{what} file is damaged: {name} begins after ticks that were lost"))
-    return lost
+    return [*lost, *odd_files(files, found)]
+
+
+def odd_files(files: Files, found: Found) -> Iterator[Refused]:
+    """The closed files that no crash leaves so: an image beside one of a tick above 0, and a log once a tick is recovered, whose
+    gate isn't 00; and log.a without a header of format 2, if log.b has one. A gate of log.b that isn't 01 either counts if a base
+    from 1 to that tick is behind it."""
+    for place, (name, data) in enumerate(zip(NAMES, files)):
+        code, what, head, reached = (14, "an image", 17, found.source) if place < 2 else (15, "a log", 10, found.tick)
+        if not data or (len(data) >= head and data[0] == 1) or not reached:
+            continue
+        why = ("odd_image", "odd_image", "odd_log_a", "odd_log_b")[place] if data[0] else ""
+        if place == 3 and data[0] > 1 and not 0 < header_of(data)[1] <= reached:
+            why = ""
+        if place == 2 and not why and header_of(files[3])[0] == 2 != header_of(data)[0]:
+            why = "headless"
+        if why:
+            yield Refused(code, why, f"{what} file is damaged: {name} is closed as no crash leaves it")
+
+
+def header_of(data: bytes) -> tuple[int, int]:
+    """The format and the base in a log's header, or zeros if it has none."""
+    try:
+        return unmarked(data) if len(data) >= 10 else (0, 0)
+    except Bad:
+        return 0, 0
 
 
 # What is written.

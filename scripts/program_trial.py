@@ -603,6 +603,24 @@ LOST = (
     ((IMAGE_OF_2, b"\0", b"\0", LOG_OF_4), 15, "log.b begins after ticks that were lost", "2 from 2"),
     ((b"\0", IMAGE_OF_2, NEW_LOG_OF_3, b"\0"), 15, "log.a begins after ticks that were lost", "2 from 2"),
     ((NEW_IMAGE, b"", NEW_LOG, NEW_LOG_OF_3), 15, "log.b begins after ticks that were lost", "0 from 0"),
+    # Closed as no crash leaves them.
+    ((b"\7" + IMAGE_OF_2[1:], IMAGE_OF_3, LOG_OF_3, LOG_OF_4), 14, "image.a is closed as no crash leaves it", "4 from 3"),
+    ((IMAGE_OF_3, IMAGE_OF_2[:16], LOG_OF_3, b"\7"), 14, "image.b is closed as no crash leaves it", "3 from 3"),
+    ((IMAGE_OF_3, b"\0", b"\7", LOG_OF_4), 15, "log.a is closed as no crash leaves it", "4 from 3"),
+    ((NEW_IMAGE, b"", LOG_OF_GROUPS, b"\2" + LOG_OF_4[1:]), 15, "log.b is closed as no crash leaves it", "3 from 0"),
+    ((IMAGE_OF_3, b"\0", LOG_OF_4, LOG_OF_3[:9]), 15, "log.b is closed as no crash leaves it", "4 from 3"),
+    ((IMAGE_OF_3, b"\0", bytes(20), b"\0" + LOG_OF_4[1:]), 15, "log.a is closed as no crash leaves it", "3 from 3"),
+    ((IMAGE_OF_3, b"\0", b"\0" + NEW_LOG[1:9], LOG_OF_4), 15, "log.a is closed as no crash leaves it", "4 from 3"),
+)
+# Closed as a crash, a copy or a new world leaves them: nothing is noted.
+WHOLE = (
+    ((IMAGE_OF_3, b"\0", b"\0", b"\0"), "3 from 3"),
+    ((bytes(20), IMAGE_OF_3, b"\0", b"\0"), "3 from 3"),
+    ((IMAGE_OF_3, IMAGE_OF_2[:16].replace(b"\1", b"\0"), LOG_OF_4, bytes(20)), "4 from 3"),
+    ((IMAGE_OF_3, b"\0" + IMAGE_OF_2[1:], LOG_OF_4, b"\7" + BAD_IMAGE), "4 from 3"),
+    ((IMAGE_OF_3, b"\0", bytes(20), NEW_LOG_OF_3), "3 from 3"),
+    ((NEW_IMAGE, b"\7", LOG_OF_GROUPS, b"\7"), "3 from 0"),
+    ((NEW_IMAGE, CUT_IMAGE[:9], b"\7", b"\7" + LOG_OF_4[1:]), "0 from 0"),
 )
 # Refused with 15 by the flag, and not noted without it: an empty log beside an image of tick 0, of which ticks were recovered.
 LOST_EARLY = (
@@ -621,7 +639,7 @@ def serve_once(trial: Trial, folder: pathlib.Path, *more: str) -> tuple[str, str
         trial.check(f"serve {more}", answer_to(connect(listening.split()[-1]), b"end\n")[:5], "tick ")
         _, errors = server.communicate(timeout=SECONDS)
     trial.runs += 1
-    return first, "".join(line for line in errors.splitlines(True) if " empty" in line or " lost" in line)
+    return first, "".join(line for line in errors.splitlines(True) if re.search(" empty| lost| closed as ", line))
 
 
 def try_lost(trial: Trial) -> None:
@@ -630,6 +648,11 @@ def try_lost(trial: Trial) -> None:
         try_loss(trial, files, code, why, answer, f"worldd: {why}\n")
     for files, why, answer in LOST_EARLY:
         try_loss(trial, files, 15, why, answer, "")
+    for files, answer in WHOLE:
+        with new_folder(*files) as folder:
+            trial.ends(f"recover {files}", trial.run("recover", REFUSE, "--dir", str(folder)), f"recovered {answer}\n", "", 0)
+            trial.check(f"serve {files}", serve_once(trial, folder, REFUSE), (f"recovered {answer}\n", ""))
+            trial.seen["served beside a closed file"] += 1
 
 
 def try_loss(trial: Trial, files: tuple[bytes, ...], code: int, why: str, answer: str, note: str) -> None:
@@ -927,7 +950,7 @@ PARTS = (
 # What has to be seen.
 SEEN = (
     "status 0", "status 2", "status 14", *(f"status 1, fault {code}" for code in (13, 14, 15, 16, 18, 22)),
-    "served", "served beside an empty log", "served beside a lost file", "reported with its log down",
+    "served", "served beside an empty log", "served beside a lost file", "served beside a closed file", "reported with its log down",
 )
 
 

@@ -1,12 +1,15 @@
--- No crash leaves an empty file of a core, from the start's end and from the first ticks on.
-use Rattle.std.proofs.Common.{◌≡◌, ℕ, ◌+◌, ◌<◌, ◌≤◌, ◌⊎◌, inl, inr, Bool, true, false, not, IsTrue, List, [], ◌∷◌, ◌++◌, length}
-use Rattle.std.proofs.Common.{take, replicate, Option, Some, None, Ok, refl, sym, ap, subst, ◌∙◌, arith}
-use Rattle.std.proofs.lemmas.List.{length-append, length-take-le, length-take}
+-- No crash leaves an empty file of a core, or a short one, from the start's end and from the first ticks on.
+use Rattle.std.proofs.Common.{◌≡◌, ℕ, ◌+◌, ◌<◌, ◌≤◌, ◌⊎◌, inl, inr, Bool, true, false, IsTrue, List, [], ◌∷◌, length}
+use Rattle.std.proofs.Common.{take, replicate, Option, Some, None, refl, sym, ap, subst, ◌∙◌, arith}
+use Rattle.std.specs.Prelude.{nat_le}
+use Rattle.std.proofs.lemmas.List.{length-append, length-take}
+use Rattle.std.proofs.lemmas.Bool.{cases_lt}
+use Rattle.std.proofs.lemmas.Bool.Decides.{nat_tests}
 use Rattle.world_actions.specs.declared.action.Action.{Action}
 use Rattle.file_format.specs.declared.slot.Slot.{Slot}
 use Rattle.file_format.specs.declared.slot.Slot.TheVariants.{A, B}
 use Rattle.file_format.specs.Slot.{of_slot, in_slot, beside_slot, other_slot}
-use Rattle.disk_model.specs.Disk.{Only, Call, Length, Read, Write, Sync, CalledOnce}
+use Rattle.disk_model.specs.Disk.{Call, Length, Read, Write, Sync, CalledOnce}
 use Rattle.disk_model.specs.FileState.{FileState, Calls}
 use Rattle.disk_model.specs.Fused.{Fails}
 use Rattle.disk_model.specs.CrashOutcome.{IsCrashOutcome}
@@ -15,7 +18,7 @@ use Rattle.image_files.specs.declared.phase.Phase.TheVariants as image_phase
 use Rattle.image_files.specs.declared.answer.ImageAnswer.{ImageAnswer}
 use Rattle.image_files.specs.declared.answer.ImageAnswer.TheVariants as image_given
 use Rattle.image_files.specs.Image.{Image, Closed, Open, image_of}
-use Rattle.image_files.specs.Images.{Round, Images, FirstImages, ImageFiles, NoneYet, Newest, newest_in, round_in, with_opened, StepsImages}
+use Rattle.image_files.specs.Images.{Round, FirstImages, ImageFiles, NoneYet, Newest, newest_in, round_in, with_opened, StepsImages}
 use Rattle.image_files.specs.Progress.{Progress as ImageProgress, newest_tick, target_of, made_keeper}
 use Rattle.image_files.specs.Steps.{CallsIn as ImageCallsIn}
 use Rattle.capture_core.specs.Content.{Content, Takes}
@@ -30,10 +33,10 @@ use Rattle.action_log.specs.Progress.{rest_in, is_of_start}
 use Rattle.action_log.specs.Calls.{CallsIn as LogCallsIn}
 use Rattle.action_log.specs.Written.{Written}
 use Rattle.action_log.specs.Files.{CurrentFits, CurrentOutcomes}
-use Rattle.action_log.specs.Segment.{Segment, OpenSegment, IsSegment}
-use Rattle.action_log.specs.Logs.{Logs, Start, Journal, InStart, Writing, LogPlace, LogsAre, started}
+use Rattle.action_log.specs.Segment.{Segment, IsSegment}
+use Rattle.action_log.specs.Logs.{Start, Journal, InStart, Writing, LogPlace, LogsAre, started}
 use Rattle.action_log.specs.LogSteps.{StepIn}
-use Rattle.recovery.specs.Recovery.{Recovery, Recovers}
+use Rattle.recovery.specs.Recovery.{Recovery}
 use Rattle.recovery.specs.Restart.{IsBuilt}
 use Rattle.recovery.specs.Start.{IsFirstRound}
 use Rattle.restart.specs.Start.{started_keeper, is_shut}
@@ -44,7 +47,6 @@ use Rattle.world_core.specs.declared.moves.Move.{Move}
 use Rattle.world_core.specs.declared.moves.Move.TheVariants as move
 use Rattle.world_core.specs.declared.moves.Answer.{Answer}
 use Rattle.world_core.specs.declared.moves.Answer.TheVariants as answer
-use Rattle.world_core.specs.declared.moves.Remains.{Remains}
 use Rattle.world_core.specs.Past.{Past, past_after, fresh_past}
 use Rattle.world_core.specs.State.{File, State, files_in, HasImages, HasLog}
 use Rattle.world_core.specs.Starting.{HasOnly, Begins, BeginsFresh, StandsOn}
@@ -56,7 +58,7 @@ use Rattle.world_core.specs.Laws.{KeeperLaws, OutcomeLaws, SafetyLaws}
 use Rattle.world_core.specs.Written.{NoneIsEmpty, IsWritten, AreWritten, StayWritten}
 use Rattle.world_core.proofs.Safe.{core_is_safe_for}
 use Rattle.world_core.proofs.Imaging.{taken_newest}
-use Rattle.world_core.proofs.Recovering.{restarts, closed_image}
+use Rattle.world_core.proofs.Recovering.{restarts}
 
 -- ---- a file
 
@@ -64,36 +66,36 @@ use Rattle.world_core.proofs.Recovering.{restarts, closed_image}
 durable_stays : (file : FileState) → IsCrashOutcome file file.durable
 durable_stays file = record { are_bytes = file.in_order.durable_bytes; no_shorter = omega arith; no_longer = file.in_order.no_shorter; kept = λ place inside synced. refl }
 
-outcome_written : (file : FileState) (left : List ℕ) → IsWritten file → IsCrashOutcome file left → 0 < length left
-outcome_written file left w o = omega (arith, w, o.no_shorter)
+outcome_written : (count : ℕ) (file : FileState) (left : List ℕ) → IsWritten count file → IsCrashOutcome file left → count ≤ length left
+outcome_written count file left w o = omega (arith, w, o.no_shorter)
 
-only_written : (bytes : List ℕ) (file : File) → HasOnly bytes file → 0 < length bytes → IsWritten file.inner
-only_written bytes file h some = subst (λ b. 0 < length b) (sym (h.only file.inner.durable (durable_stays file.inner))) some
+only_written : (count : ℕ) (bytes : List ℕ) (file : File) → HasOnly bytes file → count ≤ length bytes → IsWritten count file.inner
+only_written count bytes file h some = subst (λ b. count ≤ length b) (sym (h.only file.inner.durable (durable_stays file.inner))) some
 
 -- a call shortens no file
-calls_keep : (old : FileState) (call : Call) (succeeded : Bool) (new : FileState) → Calls old call succeeded new → IsWritten old → IsWritten new
-calls_keep old call false new is w = subst IsWritten (sym is) w
-calls_keep old (Write at bytes) true new is w = subst (λ b. 0 < length b) (sym is.durable) w
-calls_keep old Sync true new is w = subst (λ b. 0 < length b) (sym is.synced.durable) (let some : 0 < length old.content = omega (arith, w, old.in_order.no_shorter) in some)
-calls_keep old Length true new is w = subst IsWritten (sym is) w
-calls_keep old (Read at count) true new is w = subst IsWritten (sym is) w
+calls_keep : (old : FileState) (call : Call) (succeeded : Bool) (new : FileState) → Calls old call succeeded new → (count : ℕ) → IsWritten count old → IsWritten count new
+calls_keep old call false new is count w = subst (IsWritten count) (sym is) w
+calls_keep old (Write at bytes) true new is count w = subst (λ b. count ≤ length b) (sym is.durable) w
+calls_keep old Sync true new is count w = subst (λ b. count ≤ length b) (sym is.synced.durable) (let some : count ≤ length old.content = omega (arith, w, old.in_order.no_shorter) in some)
+calls_keep old Length true new is count w = subst (IsWritten count) (sym is) w
+calls_keep old (Read at many) true new is count w = subst (IsWritten count) (sym is) w
 
--- once a file is written, it stays so
+-- bytes that are written stay so
 abbrev pub Keeps : (old new : File) → Type 0
-Keeps old new = IsWritten old.inner → IsWritten new.inner
+Keeps old new = (count : ℕ) → IsWritten count old.inner → IsWritten count new.inner
 
 same_keeps : (old new : File) → new ≡ old → Keeps old new
-same_keeps old new is w = subst (λ (f : File). IsWritten f.inner) (sym is) w
+same_keeps old new is count w = subst (λ (f : File). IsWritten count f.inner) (sym is) w
 
 fails_keep : (old : File) (call : Call) (new : File) → Fails Calls old call new → Keeps old new
-fails_keep old (Write at bytes) new f w = calls_keep old.inner (Write at bytes) f.0 new.inner f.1 w
-fails_keep old Length new f w = subst IsWritten (sym f.0) w
-fails_keep old (Read at count) new f w = subst IsWritten (sym f.0) w
-fails_keep old Sync new f w = subst IsWritten (sym f.0) w
+fails_keep old (Write at bytes) new f count w = calls_keep old.inner (Write at bytes) f.0 new.inner f.1 count w
+fails_keep old Length new f count w = subst (IsWritten count) (sym f.0) w
+fails_keep old (Read at many) new f count w = subst (IsWritten count) (sym f.0) w
+fails_keep old Sync new f count w = subst (IsWritten count) (sym f.0) w
 
 called_keeps : (fate : Fate) (old : File) (call : Call) (succeeded : Bool) (new : File) → CallsBy fate old call succeeded new → Keeps old new
-called_keeps fate_.Done old call succeeded new c w = calls_keep old.inner call succeeded new.inner c.0 w
-called_keeps fate_.Failed old call succeeded new c w = fails_keep old call new c.1 w
+called_keeps fate_.Done old call succeeded new c count w = calls_keep old.inner call succeeded new.inner c.0 count w
+called_keeps fate_.Failed old call succeeded new c count w = fails_keep old call new c.1 count w
 
 once_keeps : (fate : Fate) (old new : File) → CalledOnce (CallsBy fate) old new → Keeps old new
 once_keeps fate old new c = called_keeps fate old c.0 c.1 new c.2
@@ -145,22 +147,28 @@ module _ (fate : Fate) where
 
 -- ---- files with an open image or segment
 
-nonempty_image : (bytes : List ℕ) (tick : ℕ) (words : List ℕ) → image_of bytes ≡ Open tick words → 0 < length bytes
-nonempty_image [] tick words is = absurd (let e : Closed ≡ Open tick words = sym closed_image ∙ is in cc)
-nonempty_image (gate ∷ bytes) tick words is = omega arith
+short_image : (bytes : List ℕ) → length bytes < 17 → image_of bytes ≡ Closed
+unfolding image_of
+short_image bytes short = (let no : nat_le 17 (length bytes) ≡ false = grind (arith, nat_tests, short) in rw no refl)
 
-open_written : (file : FileState) (tick : ℕ) (words : List ℕ) → ((left : List ℕ) → IsCrashOutcome file left → image_of left ≡ Open tick words) → IsWritten file
-open_written file tick words reads = nonempty_image file.durable tick words (reads file.durable (durable_stays file))
+headed_image : (bytes : List ℕ) (tick : ℕ) (words : List ℕ) → image_of bytes ≡ Open tick words → 17 ≤ length bytes
+headed_image bytes tick words is = elim (cases_lt (length bytes) 17) [
+  | inl short ↦ absurd (let e : Closed ≡ Open tick words = sym (short_image bytes short) ∙ is in cc)
+  | inr long ↦ long
+]
+
+open_written : (file : FileState) (tick : ℕ) (words : List ℕ) → ((left : List ℕ) → IsCrashOutcome file left → image_of left ≡ Open tick words) → IsWritten 17 file
+open_written file tick words reads = headed_image file.durable tick words (reads file.durable (durable_stays file))
 
 -- both images are open
 both_open : (slot : Slot) (a b : FileState) (tick earlier : ℕ) (words before : List ℕ)
     → ((left : List ℕ) → in_slot slot (IsCrashOutcome a) (IsCrashOutcome b) left → image_of left ≡ Open tick words)
     → ((left : List ℕ) → beside_slot slot (IsCrashOutcome a) (IsCrashOutcome b) left → image_of left ≡ Open earlier before)
-    → IsWritten a × IsWritten b
+    → IsWritten 17 a × IsWritten 17 b
 both_open A a b tick earlier words before newest beside = (open_written a tick words newest, open_written b earlier before beside)
 both_open B a b tick earlier words before newest beside = (open_written a earlier before beside, open_written b tick words newest)
 
-current_written : (tick : ℕ) (log_a log_b : FileState) → LogsAre (started tick) (IsCrashOutcome log_a) (IsCrashOutcome log_b) → IsWritten log_a
+current_written : (tick : ℕ) (log_a log_b : FileState) → LogsAre (started tick) (IsCrashOutcome log_a) (IsCrashOutcome log_b) → IsWritten 10 log_a
 current_written tick log_a log_b logs =
     let r = logs.current log_a.durable (durable_stays log_a) in
     elim r.2 [
@@ -191,17 +199,17 @@ last_phase OpeningSync shut one of_start = refl
 retired_written : (phase : Phase) (current : Slot) (starting down : Bool) (base : ℕ) (written : Written) (log_a log_b : FileState) → phase ≡ OpeningSync → current ≡ B → starting ≡ true
     → CurrentFits phase starting down base written (of_slot current log_a.content log_b.content)
     → CurrentOutcomes phase base written (of_slot current log_a.content log_b.content) (in_slot current (IsCrashOutcome log_a) (IsCrashOutcome log_b))
-    → IsWritten log_b
+    → IsWritten 1 log_b
 retired_written phase current starting down base written log_a log_b last is_b in_start fits outcomes =
     let shut = subst (λ s. CurrentFits OpeningSync true down base written (of_slot s log_a.content log_b.content)) is_b
     (subst (λ p. CurrentFits p true down base written (of_slot current log_a.content log_b.content)) last
     (subst (λ s. CurrentFits phase s down base written (of_slot current log_a.content log_b.content)) in_start fits)) in
     let only = subst (λ s. CurrentOutcomes OpeningSync base written (of_slot s log_a.content log_b.content) (in_slot s (IsCrashOutcome log_a) (IsCrashOutcome log_b))) is_b
     (subst (λ p. CurrentOutcomes p base written (of_slot current log_a.content log_b.content) (in_slot current (IsCrashOutcome log_a) (IsCrashOutcome log_b))) last outcomes) in
-    subst (λ b. 0 < length b) (sym (only log_b.durable (durable_stays log_b))) shut.0
+    subst (λ b. 1 ≤ length b) (sym (only log_b.durable (durable_stays log_b))) shut.0
 
 ends_closed : (state : State) (start : Start) (left : ℕ) → HasLog state (record { journal = InStart start; left = left })
-    → state.log.down ≡ false → state.log.starting ≡ true → left ≡ 1 → IsWritten state.log_b.inner
+    → state.log.down ≡ false → state.log.starting ≡ true → left ≡ 1 → IsWritten 1 state.log_b.inner
 ends_closed state start left h up in_start one =
     let keeper = state.log in
     let last = last_phase keeper.phase keeper.other_shut (sym (h.left_is up) ∙ one) (subst (λ s. IsTrue (is_of_start keeper.phase s)) in_start h.holds.in_order.of_start) in
@@ -220,7 +228,7 @@ was_up fate true old given new e s was is = absurd (not_both new.log.starting (a
 -- the start's last step leaves both logs written
 start_ends : OutcomeLaws → (fate : Fate) (old new : State) (journal : Journal) (left : ℕ) (given : LogAnswer) (next : LogPlace) → StepsLogKeeper fate old given new
     → HasLog old (record { journal = journal; left = left }) → HasLog new next → StepIn journal left old.queue given next new.queue
-    → old.log.starting ≡ true → new.log.starting ≡ false → IsWritten new.log_a.inner × IsWritten new.log_b.inner
+    → old.log.starting ≡ true → new.log.starting ≡ false → IsWritten 10 new.log_a.inner × IsWritten 1 new.log_b.inner
 start_ends outcomes fate old new (Writing logs) left given next s had has step was is = absurd (not_both old.log.starting was had.0.over)
 start_ends outcomes fate old new (InStart start) left log_given.Idle next s had has step was is = absurd step.0
 start_ends outcomes fate old new (InStart start) left (log_given.Acked tick) next s had has step was is = absurd step.0
@@ -231,12 +239,12 @@ start_ends outcomes fate old new (InStart start) left log_given.Working next s h
   | inr last ↦ (
       let place : LogPlace = record { journal = Writing (started start.tick); left = 0 } in
       let a = current_written start.tick new.log_a.inner new.log_b.inner (outcomes.log new.log place new.log_a new.log_b (subst (HasLog new) last.1 has)) in
-      (a, (log_step_keeps fate old log_given.Working new s).1 (ends_closed old start left had (was_up fate old.log.down old log_given.Working new refl s was is) was last.0)))
+      (a, (log_step_keeps fate old log_given.Working new s).1 1 (ends_closed old start left had (was_up fate old.log.down old log_given.Working new refl s was is) was last.0)))
 ]
 
 log_ends : OutcomeLaws → (fate : Fate) (old new : State) (place : LogPlace) (given : LogAnswer) → HasLog old place
     → StepsLogKeeper fate old given new → old.log.starting ≡ true → new.log.starting ≡ false
-    → IsWritten new.log_a.inner × IsWritten new.log_b.inner
+    → IsWritten 10 new.log_a.inner × IsWritten 1 new.log_b.inner
 log_ends outcomes fate old new place given has s was is =
     let next = s.stands place has in
     start_ends outcomes fate old new place.journal place.left given next.0 s has next.1 next.2 was is
@@ -263,7 +271,7 @@ first_tick first ticks acknowledged images (Writing logs) queue round h some = a
 -- a round that ends leaves two images that are written, except the first one
 opened_written : OutcomeLaws → (past : Past) (old new : State) (images : ImageFiles) (journal : Journal) (round : Round)
     → HasPhase (replicate old.cells 0) past.history.ticks past.acknowledged images journal old.queue → round_in images ≡ Some round
-    → HasImages new (with_opened round images) → 0 < newest_tick (newest_in (with_opened round images)) → IsWritten new.image_a.inner × IsWritten new.image_b.inner
+    → HasImages new (with_opened round images) → 0 < newest_tick (newest_in (with_opened round images)) → IsWritten 17 new.image_a.inner × IsWritten 17 new.image_b.inner
 opened_written outcomes past old new (NoneYet images) journal round phase some has after_first =
     absurd (omega (arith, after_first, first_tick (replicate old.cells 0) past.history.ticks past.acknowledged images journal old.queue round phase some))
 opened_written outcomes past old new (Newest images) journal round phase some has after_first =
@@ -272,7 +280,7 @@ opened_written outcomes past old new (Newest images) journal round phase some ha
 
 image_step_written : KeeperLaws → OutcomeLaws → (past : Past) (fate : Fate) (old : State) (given : ImageAnswer) (new : State)
     → IsCoreAt past old → StepsImageKeeper fate old given new → AreWritten past old
-    → 0 < newest_tick new.images.newest → IsWritten new.image_a.inner × IsWritten new.image_b.inner
+    → 0 < newest_tick new.images.newest → IsWritten 17 new.image_a.inner × IsWritten 17 new.image_b.inner
 image_step_written keepers outcomes past fate old given new c s w after_first =
     let next = s.stands c.images c.has_images in
     let was : old.images.newest ≡ newest_in c.images = keepers.newest old.images c.images old.image_a old.image_b c.has_images in
@@ -282,7 +290,7 @@ image_step_written keepers outcomes past fate old given new c s w after_first =
       | inl same ↦ (
           let before : 0 < newest_tick old.images.newest = subst (λ n. 0 < newest_tick n) (is ∙ same ∙ sym was) after_first in
           let both = w.imaged before in
-          (keeps.0 both.0, keeps.1 both.1))
+          (keeps.0 17 both.0, keeps.1 17 both.1))
       | inr opened ↦ (
           let has = subst (HasImages new) opened.1 next.1 in
           opened_written outcomes past old new c.images c.place.journal opened.0 c.in_step.phase opened.2 has (subst (λ n. 0 < newest_tick n) (is ∙ ap newest_in opened.1) after_first))
@@ -304,14 +312,14 @@ tick_written past next old new c e w =
     let queued : length new.queue ≡ length old.queue + 1 = ap (λ (s : State). length s.queue) e.2 ∙ length-append old.queue (records.Tick e.0 ∷ []) in
     let over : new.log.starting ≡ false = queued_by next new c.images c.place.journal c.place.left c.in_step.phase c.has_log (let some : 0 < length new.queue = omega (arith, queued) in some) in
     let both = w.started (ap (λ (s : State). s.log.starting) (sym e.2) ∙ over) in
-    let logs : IsWritten new.log_a.inner × IsWritten new.log_b.inner =
-    (subst (λ (s : State). IsWritten s.log_a.inner) (sym e.2) both.0, subst (λ (s : State). IsWritten s.log_b.inner) (sym e.2) both.1) in
+    let logs : IsWritten 10 new.log_a.inner × IsWritten 1 new.log_b.inner =
+    (subst (λ (s : State). IsWritten 10 s.log_a.inner) (sym e.2) both.0, subst (λ (s : State). IsWritten 1 s.log_b.inner) (sym e.2) both.1) in
     record {
       started = λ is. logs;
       ticked = λ some. logs;
       imaged = λ after_first. (
           let images = w.imaged (subst (λ (s : State). 0 < newest_tick s.images.newest) e.2 after_first) in
-          (subst (λ (s : State). IsWritten s.image_a.inner) (sym e.2) images.0, subst (λ (s : State). IsWritten s.image_b.inner) (sym e.2) images.1));
+          (subst (λ (s : State). IsWritten 17 s.image_a.inner) (sym e.2) images.0, subst (λ (s : State). IsWritten 17 s.image_b.inner) (sym e.2) images.1));
     }
 
 -- ---- the other moves
@@ -320,11 +328,11 @@ tick_written past next old new c e w =
 still_written : (past next : Past) (old new : State) → next.history.ticks ≡ past.history.ticks → new.log ≡ old.log → new.images.newest ≡ old.images.newest
     → new.log_a ≡ old.log_a → new.log_b ≡ old.log_b → new.image_a ≡ old.image_a → new.image_b ≡ old.image_b → AreWritten past old → AreWritten next new
 still_written past next old new ticks log newest log_a log_b image_a image_b w = record {
-  started = λ is. (let both = w.started (ap (λ (k : LogProgress). k.starting) (sym log) ∙ is) in (same_keeps old.log_a new.log_a log_a both.0, same_keeps old.log_b new.log_b log_b both.1));
-  ticked = λ some. (let both = w.ticked (subst (λ (t : List (List Action)). 0 < length t) ticks some) in (same_keeps old.log_a new.log_a log_a both.0, same_keeps old.log_b new.log_b log_b both.1));
+  started = λ is. (let both = w.started (ap (λ (k : LogProgress). k.starting) (sym log) ∙ is) in (same_keeps old.log_a new.log_a log_a 10 both.0, same_keeps old.log_b new.log_b log_b 1 both.1));
+  ticked = λ some. (let two = w.ticked (subst (λ (t : List (List Action)). 0 < length t) ticks some) in (same_keeps old.log_a new.log_a log_a 10 two.0, same_keeps old.log_b new.log_b log_b 1 two.1));
   imaged =
       λ after_first.
-      (let both = w.imaged (subst (λ n. 0 < newest_tick n) newest after_first) in (same_keeps old.image_a new.image_a image_a both.0, same_keeps old.image_b new.image_b image_b both.1));
+      (let both = w.imaged (subst (λ n. 0 < newest_tick n) newest after_first) in (same_keeps old.image_a new.image_a image_a 17 both.0, same_keeps old.image_b new.image_b image_b 17 both.1));
 }
 
 same_written : (past next : Past) (old new : State) → next.history.ticks ≡ past.history.ticks → new ≡ old → AreWritten past old → AreWritten next new
@@ -339,15 +347,15 @@ image_written keepers outcomes past next fate old given new ticks c s w =
     let log_a = same_keeps old.log_a new.log_a (ap (λ (s : State). s.log_a) s.rest) in
     let log_b = same_keeps old.log_b new.log_b (ap (λ (s : State). s.log_b) s.rest) in
     record {
-      started = λ is. (let both = w.started (ap (λ (s : State). s.log.starting) (sym s.rest) ∙ is) in (log_a both.0, log_b both.1));
-      ticked = λ some. (let both = w.ticked (subst (λ (t : List (List Action)). 0 < length t) ticks some) in (log_a both.0, log_b both.1));
+      started = λ is. (let both = w.started (ap (λ (s : State). s.log.starting) (sym s.rest) ∙ is) in (log_a 10 both.0, log_b 1 both.1));
+      ticked = λ some. (let both = w.ticked (subst (λ (t : List (List Action)). 0 < length t) ticks some) in (log_a 10 both.0, log_b 1 both.1));
       imaged = image_step_written keepers outcomes past fate old given new c s w;
     }
 
 log_started : OutcomeLaws → (past : Past) (fate : Fate) (old : State) (given : LogAnswer) (new : State) → IsCoreAt past old → StepsLogKeeper fate old given new → AreWritten past old
-    → (was : Bool) → old.log.starting ≡ was → new.log.starting ≡ false → IsWritten new.log_a.inner × IsWritten new.log_b.inner
+    → (was : Bool) → old.log.starting ≡ was → new.log.starting ≡ false → IsWritten 10 new.log_a.inner × IsWritten 1 new.log_b.inner
 log_started outcomes past fate old given new c s w true was is = log_ends outcomes fate old new c.place given c.has_log s was is
-log_started outcomes past fate old given new c s w false was is = (let both = w.started was in let keeps = log_step_keeps fate old given new s in (keeps.0 both.0, keeps.1 both.1))
+log_started outcomes past fate old given new c s w false was is = (let both = w.started was in let keeps = log_step_keeps fate old given new s in (keeps.0 10 both.0, keeps.1 1 both.1))
 
 log_written : OutcomeLaws → (past next : Past) (fate : Fate) (old : State) (given : LogAnswer) (new : State)
     → next.history.ticks ≡ past.history.ticks → IsCoreAt past old → StepsLogKeeper fate old given new
@@ -358,8 +366,8 @@ log_written outcomes past next fate old given new ticks c s w =
     let image_b = same_keeps old.image_b new.image_b (ap (λ (s : State). s.image_b) s.rest) in
     record {
       started = log_started outcomes past fate old given new c s w old.log.starting refl;
-      ticked = λ some. (let both = w.ticked (subst (λ (t : List (List Action)). 0 < length t) ticks some) in (keeps.0 both.0, keeps.1 both.1));
-      imaged = λ after_first. (let both = w.imaged (subst (λ (s : State). 0 < newest_tick s.images.newest) s.rest after_first) in (image_a both.0, image_b both.1));
+      ticked = λ some. (let both = w.ticked (subst (λ (t : List (List Action)). 0 < length t) ticks some) in (keeps.0 10 both.0, keeps.1 1 both.1));
+      imaged = λ after_first. (let both = w.imaged (subst (λ (s : State). 0 < newest_tick s.images.newest) s.rest after_first) in (image_a 17 both.0, image_b 17 both.1));
     }
 
 -- ---- a crash
@@ -371,15 +379,15 @@ started_newest true tick keeper = refl
 -- a start on files of which none is empty
 begun_written : (cells : ℕ) (newest : Option (Slot × ℕ)) (tick : ℕ) (words : List ℕ) (round : Bool) (image_a image_b log_a log_b : List ℕ) (next : Past) (new : State)
     → Begins cells newest tick words round image_a image_b log_a log_b new
-    → (0 < length next.history.ticks → (0 < length log_a) × (0 < length log_b)) → (0 < newest_tick newest → (0 < length image_a) × (0 < length image_b))
+    → (0 < length next.history.ticks → (10 ≤ length log_a) × (1 ≤ length log_b)) → (0 < newest_tick newest → (17 ≤ length image_a) × (17 ≤ length image_b))
     → AreWritten next new
 begun_written cells newest tick words round image_a image_b log_a log_b next new b logs images = record {
   started = λ is. absurd (not_both new.log.starting (ap (λ (k : LogProgress). k.starting) b.log) is);
-  ticked = λ some. (let both = logs some in (only_written log_a new.log_a b.file_la both.0, only_written log_b new.log_b b.file_lb both.1));
+  ticked = λ some. (let both = logs some in (only_written 10 log_a new.log_a b.file_la both.0, only_written 1 log_b new.log_b b.file_lb both.1));
   imaged = λ after_first. (
       let is : new.images.newest ≡ newest = ap (λ (k : ImageProgress). k.newest) b.images ∙ started_newest round tick (made_keeper cells newest (is_shut image_a) (is_shut image_b)) in
       let both = images (subst (λ n. 0 < newest_tick n) is after_first) in
-      (only_written image_a new.image_a b.file_a both.0, only_written image_b new.image_b b.file_b both.1));
+      (only_written 17 image_a new.image_a b.file_a both.0, only_written 17 image_b new.image_b b.file_b both.1));
 }
 
 -- the file in a slot is the newest image's or the other one
@@ -394,33 +402,34 @@ open_tick tick from words older e = cc
 
 -- if recovery takes the newest image, its tick is that image's; else the other file is open
 taken_or_open : (newest beside : List ℕ) (tick from : ℕ) (words older : List ℕ) → image_of newest ≡ Open tick words
-    → (image_of newest ≡ Open from older) ⊎ (image_of beside ≡ Open from older) → (tick ≡ from) ⊎ (0 < length beside)
+    → (image_of newest ≡ Open from older) ⊎ (image_of beside ≡ Open from older) → (tick ≡ from) ⊎ (17 ≤ length beside)
 taken_or_open newest beside tick from words older reads (inl is) = inl (open_tick tick from words older (sym reads ∙ is))
-taken_or_open newest beside tick from words older reads (inr is) = inr (nonempty_image beside from older is)
+taken_or_open newest beside tick from words older reads (inr is) = inr (headed_image beside from older is)
 
-beside_left : (file : FileState) (tick from : ℕ) (left : List ℕ) → IsCrashOutcome file left → (0 < tick → IsWritten file) → 0 < from → (tick ≡ from) ⊎ (0 < length left) → 0 < length left
-beside_left file tick from left o written some (inl same) = outcome_written file left (written (omega (arith, same, some))) o
+beside_left : (file : FileState) (tick from : ℕ) (left : List ℕ) → IsCrashOutcome file left → (0 < tick → IsWritten 17 file) → 0 < from → (tick ≡ from) ⊎ (17 ≤ length left) → 17 ≤ length left
+beside_left file tick from left o written some (inl same) = outcome_written 17 file left (written (omega (arith, same, some))) o
 beside_left file tick from left o written some (inr there) = there
 
 images_left : (slot : Slot) (a b : FileState) (tick from : ℕ) (words older ia ib : List ℕ) (chosen : Slot)
     → ((left : List ℕ) → in_slot slot (IsCrashOutcome a) (IsCrashOutcome b) left → image_of left ≡ Open tick words)
-    → (0 < tick → IsWritten a × IsWritten b) → IsCrashOutcome a ia → IsCrashOutcome b ib → of_slot chosen (image_of ia) (image_of ib) ≡ Open from older → 0 < from → (0 < length ia) × (0 < length ib)
+    → (0 < tick → IsWritten 17 a × IsWritten 17 b) → IsCrashOutcome a ia → IsCrashOutcome b ib
+    → of_slot chosen (image_of ia) (image_of ib) ≡ Open from older → 0 < from → (17 ≤ length ia) × (17 ≤ length ib)
 images_left A a b tick from words older ia ib chosen newest written oa ob is some = (
-  nonempty_image ia tick words (newest ia oa),
+  headed_image ia tick words (newest ia oa),
   beside_left b tick from ib ob
       (λ t. (written t).1) some (taken_or_open ia ib tick from words older (newest ia oa) (beside_or chosen A (image_of ia) (image_of ib) (Open from older) is)),
 )
 images_left B a b tick from words older ia ib chosen newest written oa ob is some = (
   beside_left a tick from ia oa (λ t. (written t).0) some
       (taken_or_open ib ia tick from words older (newest ib ob) (beside_or chosen B (image_of ia) (image_of ib) (Open from older) is)),
-  nonempty_image ib tick words (newest ib ob),
+  headed_image ib tick words (newest ib ob),
 )
 
 images_left_by : KeeperLaws → OutcomeLaws → (past : Past) (state : State) (images : ImageFiles) (journal : Journal)
     → HasImages state images → HasPhase (replicate state.cells 0) past.history.ticks past.acknowledged images journal state.queue → AreWritten past state
     → (r : Recovery) (ia ib : List ℕ) (la lb : Segment) → IsBuilt r (image_of ia) (image_of ib) la lb
     → r.tick ≤ length past.history.ticks → IsCrashOutcome state.image_a.inner ia → IsCrashOutcome state.image_b.inner ib
-    → 0 < r.from → (0 < length ia) × (0 < length ib)
+    → 0 < r.from → (17 ≤ length ia) × (17 ≤ length ib)
 images_left_by keepers outcomes past state (NoneYet images) (InStart start) has phase w r ia ib la lb built within oa ob some =
     absurd (omega (arith, some, within, built.ends, ap length phase.0.no_ticks))
 images_left_by keepers outcomes past state (NoneYet images) (Writing logs) has phase w r ia ib la lb built within oa ob some = absurd phase
@@ -438,7 +447,7 @@ none_is_empty keepers outcomes safety past state c w ia ib la lb r may e =
     let built = safety.restarts.built (image_of ia) (image_of ib) e.a e.b r e.holds in (
       λ some. (
           let both = w.ticked (let t : 0 < length past.history.ticks = omega (arith, some, again.world.ended) in t) in
-          (outcome_written state.log_a.inner la both.0 may.2, outcome_written state.log_b.inner lb both.1 may.3)),
+          (outcome_written 10 state.log_a.inner la both.0 may.2, outcome_written 1 state.log_b.inner lb both.1 may.3)),
       images_left_by keepers outcomes past state c.images c.place.journal c.has_images c.in_step.phase w r ia ib e.a e.b built again.world.ended may.0 may.1,
     )
 

@@ -1,5 +1,5 @@
 -- The reasons why four files hold no world.
-use Rattle.std.specs.Prelude.{◌≡◌, ◌↔◌, ℕ, true, ◌||◌, IsTrue, Result, Ok, Err, Option, Some, Vec}
+use Rattle.std.specs.Prelude.{◌≡◌, ◌↔◌, ℕ, true, ◌||◌, IsTrue, Result, Ok, Err, Option, Vec}
 use Rattle.std.specs.declared.alloc.Global.{Global}
 use Rattle.world_actions.specs.declared.refusal.Refusal.{Refusal}
 use Rattle.world_actions.specs.declared.refusal.Refusal.TheVariants as refusal
@@ -15,6 +15,7 @@ use Rattle.world_folder.specs.declared.fault.Fault.{Fault}
 use Rattle.world_folder.specs.declared.fault.Fault.TheVariants.{NoMemory, NoImage, Images, Segments}
 use Rattle.world_folder.specs.declared.fault.Fault.TheVariants.{Replay, Lost}
 use Rattle.world_folder.specs.declared.lost.Lost.TheVariants.{Image, Log, Gap, Older}
+use Rattle.world_folder.specs.declared.lost.Lost.TheVariants.{ChangedImage, ChangedLog}
 use Rattle.world_folder.specs.Lost.{judgement, IsRefusing}
 use Rattle.world_folder.specs.declared.lost.Checks.{Checks}
 use Rattle.world_folder.specs.declared.lost.Finding.{Finding}
@@ -43,6 +44,8 @@ refusal_of Replay = refusal.BadLog
 refusal_of (Lost (Image slot)) = refusal.BadImage
 refusal_of (Lost (Log slot)) = refusal.BadLog
 refusal_of (Lost (Gap slot)) = refusal.BadLog
+refusal_of (Lost (ChangedImage slot)) = refusal.BadImage
+refusal_of (Lost (ChangedLog slot)) = refusal.BadLog
 refusal_of (Lost (Older older)) = refusal.BadLog
 
 -- the files in which recovery finds this aren't refused, and this is named of them

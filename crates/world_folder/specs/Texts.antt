@@ -63,6 +63,8 @@ abbrev pub lost_text : Lost → List ℕ
 lost_text (lost.Image slot) = image_name slot ++ codes " is empty, so it was lost"
 lost_text (lost.Log slot) = log_name slot ++ codes " is empty, so it was lost"
 lost_text (lost.Gap slot) = log_name slot ++ codes " begins after ticks that were lost"
+lost_text (lost.ChangedImage slot) = image_name slot ++ codes " is closed as no crash leaves it"
+lost_text (lost.ChangedLog slot) = log_name slot ++ codes " is closed as no crash leaves it"
 lost_text (lost.Older older) = older_text older
 
 -- why four files hold no world, beside the refusal

@@ -53,8 +53,10 @@ impl Fault {
             Fault::NoImage => Refusal::NoImage,
             Fault::Images(_) => Refusal::BadImage,
             Fault::Segments(_) | Fault::Replay => Refusal::BadLog,
-            Fault::Lost(Lost::Image(_)) => Refusal::BadImage,
-            Fault::Lost(Lost::Log(_) | Lost::Gap(_) | Lost::Older(_)) => Refusal::BadLog,
+            Fault::Lost(Lost::Image(_) | Lost::ChangedImage(_)) => Refusal::BadImage,
+            Fault::Lost(Lost::Log(_) | Lost::Gap(_) | Lost::ChangedLog(_) | Lost::Older(_)) => {
+                Refusal::BadLog
+            }
         }
     }
 }

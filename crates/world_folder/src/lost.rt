@@ -1,16 +1,18 @@
 //! Files of which one looks lost or emptied, so that ticks that were answered are in none.
 ghost use Rattle.std.specs.Prelude.{◌≡◌, ◌≤◌, ◌⊎◌, take, IsTrue, IfOk, IfErr, IfSome, Some, None};
 ghost use Rattle.disk_model.specs.FourFiles.{EachFile, KeepsFile};
-ghost use Rattle.world_folder.specs.Lost.{begins_after, doubtful_log, empty_image, first_empty};
+ghost use Rattle.world_folder.specs.Lost.{begins_after, changed_file, changed_image, changed_log_a};
+ghost use Rattle.world_folder.specs.Lost.{changed_log_b, doubtful_log, emptied_file, empty_image};
+ghost use Rattle.world_folder.specs.Lost.{first_empty, has_odd_gate, is_begun, is_of_a_tick};
 ghost use Rattle.world_folder.specs.Lost.{judged_older, judgement, lost_log, lost_of, reached};
 ghost use Rattle.world_folder.specs.Lost.{older_finding, older_of, IsOfFile, IsRefusing};
 ghost use Rattle.world_folder.specs.Texts.{finding_text, lost_text};
 
 use crate::guard::{Guard, Older};
-use crate::look::{SEGMENT_HEAD, read_head};
+use crate::look::{IMAGE_HEAD, SEGMENT_HEAD, read_head};
 use crate::world_file::{IMAGE_A, IMAGE_B, LOG_A, LOG_B};
 use disk_model::{Disk, FourFiles};
-use file_format::{OPEN_GATE, Slot, marked_at};
+use file_format::{CLOSED_GATE, Format, OPEN_GATE, Slot, marked_at};
 use std::alloc::Global;
 use std::fmt;
 use world_actions::Refusal;
@@ -59,6 +61,11 @@ pub enum Lost {
     /// This log begins after the tick that is recovered. The ticks up to its
     /// beginning were answered.
     Gap(Slot),
+    /// This image is closed beside one of a tick above 0, and not by the gate that a write leaves.
+    ChangedImage(Slot),
+    /// This log is closed although a tick is recovered, and not by the gate that a write leaves; or
+    /// it is log.a and has no header of the second format, beside one of log.b.
+    ChangedLog(Slot),
     /// The world is older than its guard.
     Older(Older),
 }
@@ -74,6 +81,10 @@ impl fmt::Display for Lost {
             Lost::Log(Slot::B) => write!(f, "{LOG_B} is empty, so it was lost"),
             Lost::Gap(Slot::A) => write!(f, "{LOG_A} begins after ticks that were lost"),
             Lost::Gap(Slot::B) => write!(f, "{LOG_B} begins after ticks that were lost"),
+            Lost::ChangedImage(Slot::A) => write!(f, "{IMAGE_A} is closed as no crash leaves it"),
+            Lost::ChangedImage(Slot::B) => write!(f, "{IMAGE_B} is closed as no crash leaves it"),
+            Lost::ChangedLog(Slot::A) => write!(f, "{LOG_A} is closed as no crash leaves it"),
+            Lost::ChangedLog(Slot::B) => write!(f, "{LOG_B} is closed as no crash leaves it"),
             Lost::Older(older) => write!(f, "{}", older),
         }
     }
@@ -168,6 +179,18 @@ fn lost_of(on_loss: OnLoss, tick: u64, from: u64, files: &FourFiles<Vec<u8>>) ->
     ensures lost { result ≡ lost_of on_loss tick from files.now.image_a.items
         files.now.image_b.items files.now.log_a.items files.now.log_b.items }
 {
+    match emptied_file(on_loss, tick, from, files) {
+        Some(lost) => Some(lost),
+        None => changed_file(tick, from, files),
+    }
+}
+
+// What was lost of four files because a file is empty, or a log's beginning is missing.
+fn emptied_file(on_loss: OnLoss, tick: u64, from: u64, files: &FourFiles<Vec<u8>>) -> Option<Lost>
+    ensures of_file { IfSome result IsOfFile }
+    ensures lost { result ≡ emptied_file on_loss tick from files.now.image_a.items
+        files.now.image_b.items files.now.log_a.items files.now.log_b.items }
+{
     if let Some(lost) = empty_image(Slot::A, from, &files.image_a) {
         return Some(lost);
     }
@@ -233,6 +256,104 @@ fn begins_after(tick: u64, log: &[u8]) -> bool
     }
 }
 
+// The first of four files that is closed as no crash leaves it.
+#[tactic(auto, unfolding(crate::specs::Lost::changed_file))]
+fn changed_file(tick: u64, from: u64, files: &FourFiles<Vec<u8>>) -> Option<Lost>
+    ensures of_file { IfSome result IsOfFile }
+    ensures changed { result ≡ changed_file tick from files.now.image_a.items
+        files.now.image_b.items files.now.log_a.items files.now.log_b.items }
+{
+    if let Some(lost) = changed_image(Slot::A, from, &files.image_a) {
+        return Some(lost);
+    }
+    if let Some(lost) = changed_image(Slot::B, from, &files.image_b) {
+        return Some(lost);
+    }
+    match changed_log_a(tick, &files.log_a, &files.log_b) {
+        Some(lost) => Some(lost),
+        None => changed_log_b(tick, &files.log_b),
+    }
+}
+
+// Once an image of a tick above 0 is open, both images were opened once, or were made with a
+// closed gate by a copy.
+fn changed_image(slot: Slot, from: u64, image: &[u8]) -> Option<Lost>
+    ensures of_file { IfSome result IsOfFile }
+    ensures changed { result ≡ changed_image slot from image.now }
+{
+    if from > 0 && has_odd_gate(IMAGE_HEAD, image) {
+        Some(Lost::ChangedImage(slot))
+    } else {
+        None
+    }
+}
+
+// The first start begins log.a before a tick ends. Only later log.b is begun.
+fn changed_log_a(tick: u64, log_a: &[u8], log_b: &[u8]) -> Option<Lost>
+    ensures of_file { IfSome result IsOfFile }
+    ensures changed { result ≡ changed_log_a tick log_a.now log_b.now }
+{
+    if tick == 0 || log_a.is_empty() {
+        return None;
+    }
+    if has_odd_gate(SEGMENT_HEAD, log_a)
+        || log_a[0] == CLOSED_GATE && !is_begun(log_a) && is_begun(log_b)
+    {
+        Some(Lost::ChangedLog(Slot::A))
+    } else {
+        None
+    }
+}
+
+// A `create` keeps the closed gate of a log.b that it finds. So another gate counts only if it is
+// that of a segment of these ticks.
+fn changed_log_b(tick: u64, log: &[u8]) -> Option<Lost>
+    ensures of_file { IfSome result IsOfFile }
+    ensures changed { result ≡ changed_log_b tick log.now }
+{
+    if tick == 0 || !has_odd_gate(SEGMENT_HEAD, log) {
+        return None;
+    }
+    if log[0] == OPEN_GATE || is_of_a_tick(tick, log) {
+        Some(Lost::ChangedLog(Slot::B))
+    } else {
+        None
+    }
+}
+
+// True if a file is closed although its first byte isn't a closed gate. An empty file has none.
+fn has_odd_gate(head: usize, bytes: &[u8]) -> bool
+    ensures { result ≡ has_odd_gate head bytes.now }
+{
+    if bytes.is_empty() || bytes[0] == CLOSED_GATE {
+        return false;
+    }
+    bytes.len() < head || bytes[0] != OPEN_GATE
+}
+
+// True if a file has the header of a segment of the second format.
+fn is_begun(log: &[u8]) -> bool
+    ensures { result ≡ is_begun log.now }
+{
+    if log.len() < SEGMENT_HEAD {
+        return false;
+    }
+    matches!(marked_at(log), Some((Format::Second, _)))
+}
+
+// True if a file has the header of a segment that begins after a tick from 1 to this one.
+fn is_of_a_tick(tick: u64, log: &[u8]) -> bool
+    ensures { result ≡ is_of_a_tick tick log.now }
+{
+    if log.len() < SEGMENT_HEAD {
+        return false;
+    }
+    match marked_at(log) {
+        Some((_, base)) => 0 < base && base <= tick,
+        None => false,
+    }
+}
+
 // The empty log of files with these bytes, if tick 0 is recovered.
 fn doubtful_log(tick: u64, files: &FourFiles<Vec<u8>>) -> Option<Slot>
     ensures { result ≡ doubtful_log tick files.now.log_a.items files.now.log_b.items }
@@ -261,16 +382,16 @@ pub fn read_heads<D: Disk>(
     files: &mut FourFiles<D>,
 ) -> Result<FourFiles<Vec<u8>>, Refusal>
     ensures heads { IsTrue D.honest → IfOk result (λ heads. EachFile files.old heads
-        (λ disk head. head.items ≡ take SEGMENT_HEAD (D.content disk))) }
+        (λ disk head. head.items ≡ take IMAGE_HEAD (D.content disk))) }
     ensures kept { IsTrue D.honest
         → EachFile files.old files.new (KeepsFile D.content D.may_leave) }
     ensures refused { IfErr result (λ refusal. (refusal ≡ Refusal.Device)
         ⊎ (refusal ≡ Refusal.NoMemory)) }
 {
     Ok(FourFiles {
-        image_a: read_head(alloc, &mut files.image_a, SEGMENT_HEAD)?,
-        image_b: read_head(alloc, &mut files.image_b, SEGMENT_HEAD)?,
-        log_a: read_head(alloc, &mut files.log_a, SEGMENT_HEAD)?,
-        log_b: read_head(alloc, &mut files.log_b, SEGMENT_HEAD)?,
+        image_a: read_head(alloc, &mut files.image_a, IMAGE_HEAD)?,
+        image_b: read_head(alloc, &mut files.image_b, IMAGE_HEAD)?,
+        log_a: read_head(alloc, &mut files.log_a, IMAGE_HEAD)?,
+        log_b: read_head(alloc, &mut files.log_b, IMAGE_HEAD)?,
     })
 }

@@ -156,7 +156,8 @@ It prints, each line at once:
                             not after an end by a flag --exit-when-..
 On standard error it prints, and drops lines that nobody reads:
   worldd: an image every 64 ticks can halve the speed: give --every, for example 4096
-  worldd: FILE is empty, so it was lost        or: begins after ticks that were lost
+  worldd: FILE is empty, so it was lost        or: begins after ticks that were lost,
+                                               is closed as no crash leaves it
   worldd: FILE is empty: if this world was played, its ticks are lost
   worldd: tick T was recovered, and the guard has tick A at @SECONDS: restore newer
       files, or serve them by --accept-loss
