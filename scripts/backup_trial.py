@@ -95,7 +95,7 @@ class Trial:
     def copy(self, world: pathlib.Path, to: pathlib.Path, floor: int) -> Copy:
         """Backs the world up, and reads what the copy holds."""
         to.mkdir()
-        ended = ask(self.worldd, "backup", world, "--to", str(to))
+        ended = ask(self.worldd, "backup", world, "--to", str(to), kill_trial.REFUSE)
         match = re.fullmatch(r"backed up (\d+) from (\d+)\n", ended.stdout)
         begun = re.fullmatch(r"(?:worldd: it was begun (\d+) times\n)?", ended.stderr)
         if not match or not begun:
@@ -110,7 +110,7 @@ class Trial:
 
     def serve_copy(self, to: pathlib.Path, tick: int, method: str) -> None:
         """A copy is a world that goes on."""
-        flags = ["--method", method, "--clients", "1", *flags_of(SOCKET, to.with_suffix(".socket"))]
+        flags = ["--method", method, "--clients", "1", kill_trial.REFUSE, *flags_of(SOCKET, to.with_suffix(".socket"))]
         with Server([self.worldd, "serve", "--dir", str(to), *flags], self.room / "complaints") as server:
             server.line()
             with connect(server.listen()) as client, client.makefile("r") as reader:

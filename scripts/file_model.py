@@ -169,14 +169,14 @@ def losses(files: Files, found: Found, refuses: bool) -> list[Refused]:
 
 def odd_files(files: Files, found: Found) -> Iterator[Refused]:
     """The closed files that no crash leaves so: an image beside one of a tick above 0, and a log once a tick is recovered, whose
-    gate isn't 00; and log.a without a header of format 2, if log.b has one. A gate of log.b that isn't 01 either counts if a base
-    from 1 to that tick is behind it."""
+    gate isn't 00; and log.a without a header of format 2, if log.b has one. A gate of log.b that isn't 01 either counts in a segment
+    with a group and a base from 1 to that tick."""
     for place, (name, data) in enumerate(zip(NAMES, files)):
         code, what, head, reached = (14, "an image", 17, found.source) if place < 2 else (15, "a log", 10, found.tick)
         if not data or (len(data) >= head and data[0] == 1) or not reached:
             continue
         why = ("odd_image", "odd_image", "odd_log_a", "odd_log_b")[place] if data[0] else ""
-        if place == 3 and data[0] > 1 and not 0 < header_of(data)[1] <= reached:
+        if place == 3 and data[0] > 1 and not (0 < header_of(data)[1] <= reached and data[9] == 1):
             why = ""
         if place == 2 and not why and header_of(files[3])[0] == 2 != header_of(data)[0]:
             why = "headless"

@@ -33,8 +33,9 @@ BAD_CELL, BAD_VALUE, OUT_OF_RANGE, SAME_CELL, TICK_FULL, BAD_LINE = 1, 2, 3, 4, 
 
 CLIENTS = 4
 EVERY = 8
-# The ends of a server that is well never come.
-EXITS = ("--exit-when-log-down", "--exit-when-images-down", "0", "--exit-when-replaced")
+# The ends of a server that is well never come. No kill leaves files that look lost or changed.
+REFUSE = "--refuse-losses"
+EXITS = ("--exit-when-log-down", "--exit-when-images-down", "0", "--exit-when-replaced", REFUSE)
 # An image of them is written in two chunks.
 CELLS = 70
 # Cells for marks and for a count; the clients' own are 1 to CLIENTS, and those between are played with.
@@ -373,7 +374,7 @@ class Trial:
 
     def look(self) -> Found:
         """What stands in the files now."""
-        return found_in("".join(self.ask("recover")), self.ask("inspect", "--words"))
+        return found_in("".join(self.ask("recover", REFUSE)), self.ask("inspect", "--words"))
 
     def serve(self, run: int) -> Server:
         """Starts a server, by either method and over either transport in turn."""

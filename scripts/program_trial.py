@@ -620,6 +620,7 @@ WHOLE = (
     ((IMAGE_OF_3, b"\0" + IMAGE_OF_2[1:], LOG_OF_4, b"\7" + BAD_IMAGE), "4 from 3"),
     ((IMAGE_OF_3, b"\0", bytes(20), NEW_LOG_OF_3), "3 from 3"),
     ((NEW_IMAGE, b"\7", LOG_OF_GROUPS, b"\7"), "3 from 0"),
+    ((NEW_IMAGE, b"", LOG_OF_GROUPS, b"\7" + NEW_LOG_OF_3[1:]), "3 from 0"),
     ((NEW_IMAGE, CUT_IMAGE[:9], b"\7", b"\7" + LOG_OF_4[1:]), "0 from 0"),
 )
 # Refused with 15 by the flag, and not noted without it: an empty log beside an image of tick 0, of which ticks were recovered.

@@ -13,6 +13,7 @@ use Rattle.file_format.specs.Format.{marked_in}
 use Rattle.disk_model.specs.declared.four_files.FourFiles.{FourFiles}
 use Rattle.world_folder.specs.declared.guard.Guard.{Guard}
 use Rattle.world_folder.specs.declared.look.TheConstants.{IMAGE_HEAD, SEGMENT_HEAD}
+use Rattle.world_folder.specs.declared.lost.TheConstants.{GROUP_PLACE}
 use Rattle.world_folder.specs.declared.lost.Checks.{Checks}
 use Rattle.world_folder.specs.declared.lost.Lost.{Lost}
 use Rattle.world_folder.specs.declared.lost.Lost.TheVariants.{Image, Log, Gap, Older}
@@ -97,9 +98,11 @@ abbrev pub is_up_to : (tick : ℕ) → Option (Format × ℕ) → Bool
 is_up_to tick None = false
 is_up_to tick (Some (format, base)) = nat_lt 0 base && nat_le base tick
 
--- a file has the header of a segment with such a base
+-- a file has the header of a segment with such a base, and an open group after it
 abbrev pub is_of_a_tick : (tick : ℕ) → List ℕ → Bool
-is_of_a_tick tick log = nat_le SEGMENT_HEAD (length log) && is_up_to tick (marked_in log)
+is_of_a_tick tick log =
+    nat_le SEGMENT_HEAD (length log) && (get_or log GROUP_PLACE 0 == OPEN_GATE)
+    && is_up_to tick (marked_in log)
 
 -- log.a has a closed gate and no header of the second format, beside a log.b that has one
 abbrev pub is_headless : (log_a log_b : List ℕ) → Bool
@@ -113,8 +116,9 @@ changed_log_a tick log_a log_b =
     if nat_lt 0 tick && (has_odd_gate SEGMENT_HEAD log_a || is_headless log_a log_b)
     then Some (ChangedLog A) else None
 
--- log.b, if it is closed so. A world that is made keeps the gate of a closed log.b. So another gate
--- than an open one counts only in a segment of these ticks.
+-- log.b, if it is closed so. A world that is made keeps the gate of a closed log.b, also behind the
+-- header that its first switch writes. So a gate that isn't open counts only in a segment with some
+-- of these ticks.
 abbrev pub changed_log_b : (tick : ℕ) → List ℕ → Option Lost
 changed_log_b tick log =
     if nat_lt 0 tick && has_odd_gate SEGMENT_HEAD log

@@ -17,6 +17,9 @@ use std::alloc::Global;
 use std::fmt;
 use world_actions::Refusal;
 
+// The place of the gate of a segment's first group.
+const GROUP_PLACE: usize = SEGMENT_HEAD - 1;
+
 /// The treatment of four files that look as if one of them was lost.
 #[derive(Clone, Copy, Debug, PartialEq, Eq)]
 pub enum OnLoss {
@@ -305,8 +308,8 @@ fn changed_log_a(tick: u64, log_a: &[u8], log_b: &[u8]) -> Option<Lost>
     }
 }
 
-// A `create` keeps the closed gate of a log.b that it finds. So another gate counts only if it is
-// that of a segment of these ticks.
+// A `create` keeps the closed gate of a log.b that it finds, and the first switch writes a header
+// behind it. So another gate counts only if it is that of a segment with some of these ticks.
 fn changed_log_b(tick: u64, log: &[u8]) -> Option<Lost>
     ensures of_file { IfSome result IsOfFile }
     ensures changed { result ≡ changed_log_b tick log.now }
@@ -341,11 +344,12 @@ fn is_begun(log: &[u8]) -> bool
     matches!(marked_at(log), Some((Format::Second, _)))
 }
 
-// True if a file has the header of a segment that begins after a tick from 1 to this one.
+// True if a file has the header of a segment that begins after a tick from 1 to this one, and an
+// open group after it.
 fn is_of_a_tick(tick: u64, log: &[u8]) -> bool
     ensures { result ≡ is_of_a_tick tick log.now }
 {
-    if log.len() < SEGMENT_HEAD {
+    if log.len() < SEGMENT_HEAD || log[GROUP_PLACE] != OPEN_GATE {
         return false;
     }
     match marked_at(log) {
