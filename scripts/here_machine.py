@@ -209,7 +209,7 @@ def lines_of(room: pathlib.Path, worldd: str, fs: str, left: bytearray) -> list[
     options = "loop,nouuid" if fs == "xfs" else "loop"
     subprocess.run(["mount", "-o", options, path, folder], check=True, capture_output=True)
     try:
-        words = [["recover"], ["inspect", "--words"]]
+        words = [["recover", "--refuse-losses"], ["inspect", "--words"]]
         ran = [subprocess.run([worldd, *word, "--dir", folder / "w"], capture_output=True, text=True) for word in words]
     finally:
         subprocess.run(["umount", folder], check=True, capture_output=True)

@@ -54,7 +54,7 @@ READS = f"""while ! ls /dev/vport*; do sleep 0.1; done
 exec <>$(ls /dev/vport*) >&0 2>&1
 while read look; do
     {MOUNTED}
-    worldd recover --dir /mnt/w || {{{{ mkdir -p /mnt/w; worldd create --dir /mnt/w --cells {{cells}}; }}}}
+    worldd recover --refuse-losses --dir /mnt/w || {{{{ mkdir -p /mnt/w; worldd create --dir /mnt/w --cells {{cells}}; }}}}
     worldd inspect --dir /mnt/w --words; umount /mnt || rm -r /mnt/w; echo looked
 done
 """
