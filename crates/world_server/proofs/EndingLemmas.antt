@@ -1,7 +1,8 @@
 -- The ends of a server.
 use Rattle.world_folder.specs.Ending.{IsFault}
 use Rattle.world_folder.specs.declared.ending.Ending.{Ending}
-use Rattle.world_folder.specs.declared.ending.Ending.TheVariants.{Ran, MayBeOlder, HelpPrinted, Mistaken, Fault, Unreadable, NoWorld, Occupied, Unfinished, Filled, Inside, Unlisted, Stream, Server, Unwell}
+use Rattle.world_folder.specs.declared.ending.Ending.TheVariants.{Ran, MayBeOlder, HelpPrinted, Mistaken, Fault, Unreadable, NoWorld, Occupied, Unfinished, Filled, Inside, Unlisted, Stream, Server}
+use Rattle.world_folder.specs.declared.ending.Ending.TheVariants.{Unwell}
 use Rattle.world_server.specs.Serving.{EndsServing}
 
 -- a server may end in any fault
