@@ -129,37 +129,34 @@ fn faults_are_reported_by_code_and_in_words(rt: HostRuntime) {
 fn what_is_down_is_reported_by_the_status(rt: HostRuntime) {
     for (ending, statuses, code, text) in [
         (
-            Ending::Server(ServerEnding::ListenerFailed),
+            ServerEnding::ListenerFailed,
             Statuses::Plain,
             1,
             "fault 18\nworldd: the listener failed\n",
         ),
-        (
-            Ending::Server(ServerEnding::ListenerFailed),
-            Statuses::Detailed,
-            10,
-            "",
-        ),
-        (
-            Ending::Server(ServerEnding::ImagesDown),
-            Statuses::Plain,
-            11,
-            "",
-        ),
-        (
-            Ending::Server(ServerEnding::LogDown),
-            Statuses::Plain,
-            12,
-            "",
-        ),
-        (Ending::Unwell(Unwell::ImagesDown), Statuses::Plain, 11, ""),
-        (Ending::Unwell(Unwell::LogDown), Statuses::Plain, 12, ""),
-        (Ending::Unwell(Unwell::NotServed), Statuses::Plain, 15, ""),
-        (Ending::Unwell(Unwell::Hangs), Statuses::Plain, 16, ""),
+        (ServerEnding::ListenerFailed, Statuses::Detailed, 10, ""),
+        (ServerEnding::ImagesDown, Statuses::Plain, 11, ""),
+        (ServerEnding::LogDown, Statuses::Plain, 12, ""),
     ] {
-        let (status, errors) = reported(rt.alloc(), ending, statuses);
+        let (status, errors) = reported(rt.alloc(), Ending::Server(ending), statuses);
         assert!(rt;
             status == ExitCode::from(code) && errors.as_str() == text,
+            "{errors}"
+        );
+    }
+}
+
+#[test]
+fn a_world_that_is_not_well_has_a_status_for_it(rt: HostRuntime) {
+    for (why, code) in [
+        (Unwell::ImagesDown, 11),
+        (Unwell::LogDown, 12),
+        (Unwell::NotServed, 15),
+        (Unwell::Hangs, 16),
+    ] {
+        let (status, errors) = reported(rt.alloc(), Ending::Unwell(why), Statuses::Plain);
+        assert!(rt;
+            status == ExitCode::from(code) && errors.is_empty(),
             "{errors}"
         );
     }
