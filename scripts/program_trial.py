@@ -199,8 +199,8 @@ def try_command_lines(trial: Trial) -> None:
         (
             "status",
             "Prints figures of the world in a folder, also while it is served\n\nUsage: worldd status [OPTIONS] --dir <FOLDER>\n",
-            "\nend. If the files hold no world this line is all, and it ends as `recover` does, and as\n"
-            "`backup` if no copy can be taken.\n",
+            "\n  16 check: hangs: no sign of life for S seconds\n"
+            "After ten seconds without one it hangs. Without a guard that isn't known.\n",
         ),
         (
             "backup",
