@@ -16,7 +16,7 @@ no_creation found no_words no_cells (Create folder cells guards) asks = no_cells
 no_creation found no_words no_cells (CreateOfWords folder words asked guards) asks = absurd cc
 no_creation found no_words no_cells (Recover folder on_loss) asks = let first : 99 ≡ 114 = ap (λ name. slice_index name 0) asks.0 in absurd (omega (arith, first))
 no_creation found no_words no_cells (Inspect folder words on_loss) asks = let first : 99 ≡ 105 = ap (λ name. slice_index name 0) asks.0 in absurd (omega (arith, first))
-no_creation found no_words no_cells (Status folder on_loss) asks = let first : 99 ≡ 115 = ap (λ name. slice_index name 0) asks.0 in absurd (omega (arith, first))
+no_creation found no_words no_cells (Status folder on_loss checks) asks = let first : 99 ≡ 115 = ap (λ name. slice_index name 0) asks.0 in absurd (omega (arith, first))
 no_creation found no_words no_cells (BackUp folder to on_loss) asks = let first : 99 ≡ 98 = ap (λ name. slice_index name 0) asks.0 in absurd (omega (arith, first))
 no_creation found no_words no_cells (Salvage folder to) asks = let first : 99 ≡ 115 = ap (λ name. slice_index name 0) asks.0 in absurd (omega (arith, first))
 
