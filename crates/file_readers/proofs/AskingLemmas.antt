@@ -35,6 +35,12 @@ module _ {S : Type 0} (called : S → Call → Bool → S → Type 0) where
   pub asked_wider : (most further : ℕ) (old new : S) → most ≤ further → OnlyAsked called most old new → OnlyAsked called further old new
   asked_wider most further old new le asked = (asked.0, wider most further asked.0 old new le asked.1)
 
+  -- the length, or nothing
+  pub asked_length : (most : ℕ) (old between new : S) → OnlyAsked called most old between
+      → (new ≡ between) ⊎ ((succeeded : Bool) × called between Length succeeded new) → OnlyAsked called most old new
+  asked_length most old between new asked (inl same) = subst (λ (s : S). OnlyAsked called most old s) (let back : between ≡ new = cc in back) asked
+  asked_length most old between new asked (inr made) = asked_more most old between new Length made.0 asked tt made.1
+
   -- one more read, or none, and a wider bound
   pub asked_on : (most further : ℕ) (old between new : S) (at count : ℕ) → OnlyAsked called most old between → most ≤ further
       → at + count ≤ further → (new ≡ between) ⊎ ((succeeded : Bool) × called between (Read at count) succeeded new) → OnlyAsked called further old new

@@ -1,6 +1,8 @@
-ghost use Rattle.std.specs.Prelude.{◌≡◌, ◌⊎◌, ◌<◌, ◌≤◌, ℕ, false, min, [], List, Some, length};
+ghost use Rattle.std.specs.Prelude.{◌≡◌, ◌⊎◌, ◌<◌, ◌≤◌, ℕ, Bool, false, min, [], List, Some};
+ghost use Rattle.std.specs.Prelude.{length};
 ghost use Rattle.std.specs.Prelude.{take, vec_capacity, IsTrue, IsOk, IfOk, IfErr, IfSome, IfNone};
 ghost use Rattle.std.specs.Prelude.{OnOk};
+ghost use Rattle.disk_model.specs.Disk.{Length};
 ghost use Rattle.disk_model.specs.FourFiles.{KeepsFile, counted_device};
 ghost use Rattle.world_actions.specs.declared.action.Action.{Action};
 ghost use Rattle.action_log.specs.Extent.{HasNoGroups, IsExtent};
@@ -39,7 +41,7 @@ pub fn read_segment_file<D: Disk>(alloc: Global, disk: &mut D) -> Result<Vec<u8>
     ensures refused { IfErr result (λ refusal.
         (refusal ≡ Refusal.Device) ⊎ (refusal ≡ Refusal.NoMemory)) }
 {
-    let most = disk.len()?.min(SEGMENT_BYTES_MAX as u64) as usize;
+    let mut most = length_that_counts(disk)?;
     let mut bytes = Vec::new(alloc);
     let mut end = most.min(PIECE_BYTES);
     let mut known = None;
@@ -47,11 +49,53 @@ pub fn read_segment_file<D: Disk>(alloc: Global, disk: &mut D) -> Result<Vec<u8>
         reserve_pieces(&mut bytes, end, most)?;
         read_forward(disk, &mut bytes, end)?;
         known = extent_after(&bytes, known);
+        most = length_by_now(disk, end, most, known)?;
         if let Some(count) = counting(&bytes, most, known) {
             bytes.truncate(count);
             return Ok(bytes);
         }
-        end = most.min(end + end.min(PIECE_BYTES_MAX));
+        end = most.min(PIECE_BYTES.max(end + end.min(PIECE_BYTES_MAX)));
+    }
+}
+
+// Returns the number of the file's bytes, or of the longest segment's if they are fewer.
+fn length_that_counts<D: Disk>(disk: &mut D) -> Result<usize, Refusal>
+    ensures most { IfOk result (λ most. most ≤ SEGMENT_BYTES_MAX) }
+    ensures honest { IsTrue D.honest
+        → IfOk result (λ most. most ≡ min (length (D.content disk.old)) SEGMENT_BYTES_MAX) }
+    ensures kept { IsTrue D.honest → KeepsFile D.content D.may_leave disk.old disk.new }
+    ensures faults { D.faults disk.new ≡ counted_device (D.faults disk.old) result }
+    ensures asked { (succeeded : Bool) × D.called disk.old Length succeeded disk.new }
+    ensures refused { IfErr result (λ refusal. refusal ≡ Refusal.Device) }
+{
+    Ok(disk.len()?.min(SEGMENT_BYTES_MAX as u64) as usize)
+}
+
+// Returns how many bytes of a segment may be read. It asks again if all that there were have been
+// read and no gate has ended the groups: another process may have added a group since.
+fn length_by_now<D: Disk>(
+    disk: &mut D,
+    read: usize,
+    most: usize,
+    extent: Option<Extent>,
+) -> Result<usize, Refusal>
+    requires bound { most ≤ SEGMENT_BYTES_MAX }
+    requires long { (read ≡ most) ⊎ (HEADER_BYTES ≤ read) }
+    ensures same { IsTrue D.honest → most ≡ min (length (D.content disk.old)) SEGMENT_BYTES_MAX
+        → IfOk result (λ now. now ≡ most) }
+    ensures within { IfOk result (λ now. (most ≤ now) × (now ≤ SEGMENT_BYTES_MAX)) }
+    ensures long { IfOk result (λ now. (read ≡ now) ⊎ (HEADER_BYTES ≤ read)) }
+    ensures kept { IsTrue D.honest → KeepsFile D.content D.may_leave disk.old disk.new }
+    ensures faults { D.faults disk.new ≡ counted_device (D.faults disk.old) result }
+    ensures asked { (disk.new ≡ disk.old)
+        ⊎ ((succeeded : Bool) × D.called disk.old Length succeeded disk.new) }
+    ensures refused { IfErr result (λ refusal. refusal ≡ Refusal.Device) }
+{
+    match extent {
+        Some(extent) if read == most && read >= HEADER_BYTES && !extent.ended => {
+            Ok(length_that_counts(disk)?.max(most))
+        }
+        _ => Ok(most),
     }
 }
 

@@ -1,18 +1,17 @@
-use Rattle.std.proofs.Common.{◌≡◌, ◌⊎◌, inl, inr, ℕ, ◌+◌, ◌<◌, ◌≤◌, false, min, List, length, take, refl, sym, ap, subst, ◌∙◌, arith}
+use Rattle.std.proofs.Common.{◌≡◌, ◌⊎◌, inl, inr, ℕ, ◌+◌, ◌<◌, ◌≤◌, false, min, max, List, length, take, refl, sym, ap, subst, ◌∙◌, arith}
 use Rattle.world_actions.specs.declared.action.Action.{Action}
 use Rattle.action_log.specs.Extent.{IsExtent}
 use Rattle.action_log.specs.Segment.{IsOpenSegment}
 use Rattle.action_log.specs.declared.format.TheConstants.{SEGMENT_BYTES_MAX}
 use Rattle.file_readers.specs.declared.segment.TheConstants.{PIECE_BYTES}
 use Rattle.file_readers.specs.Asking.{furthest_piece}
-use Rattle.file_readers.proofs.AskingLemmas.{asked_wider, asked_on}
+use Rattle.file_readers.proofs.AskingLemmas.{asked_wider, asked_length, asked_on}
 use Rattle.file_readers.proofs.FrontLemmas.{extent_is}
 use Rattle.file_readers.proofs.segment.read_segment_file.Goals as goal
 
-next_least : (end most piece next : ℕ) → (end ≡ most) ⊎ (PIECE_BYTES ≤ end) → end < most → next ≡ min most (end + piece) → (next ≡ most) ⊎ (PIECE_BYTES ≤ next)
-next_least end most piece next (inl all) before is = absurd (omega arith)
-next_least end most piece next (inr long) before is =
-    elim (Rattle.std.proofs.lemmas.Bool.cases_lt (end + piece) most) [ inl less ↦ inr (omega arith) | inr far ↦ inl (omega arith) ]
+next_least : (most further next : ℕ) → PIECE_BYTES ≤ further → next ≡ min most further → (next ≡ most) ⊎ (PIECE_BYTES ≤ next)
+next_least most further next long is =
+    elim (Rattle.std.proofs.lemmas.Bool.cases_lt further most) [ inl less ↦ inr (omega arith) | inr far ↦ inl (omega arith) ]
 
 -- bytes that stay the first ones
 kept_first : (before reserved new : List ℕ) → reserved ≡ before → take (length reserved) new ≡ reserved → take (length before) new ≡ before
@@ -30,11 +29,21 @@ returns-in_err-read_forward-clause-asked g c =
     asked_on g.D.Disk.called (length c.loop-bytes.bytes.items) SEGMENT_BYTES_MAX c.args.disk.now c.loop-bytes.disk c.read_forward.new.disk _ _ so_far.asked
     (omega (arith, so_far.within, so_far.inside, so_far.bound)) (omega (arith, so_far.within, so_far.inside, so_far.bound, ap length c.reserve_pieces.ensures.kept)) c.read_forward.ensures.asked
 
+pub returns-in_err-most-2-clause-asked : goal.returns-in_err-most-2-clause-asked
+returns-in_err-most-2-clause-asked g c =
+    let so_far = c.loop-bytes.invariant in
+    asked_length g.D.Disk.called SEGMENT_BYTES_MAX c.args.disk.now c.read_forward.new.disk c.length_by_now.new.disk
+    (asked_on g.D.Disk.called (length c.loop-bytes.bytes.items) SEGMENT_BYTES_MAX c.args.disk.now c.loop-bytes.disk c.read_forward.new.disk _ _ so_far.asked
+    (omega (arith, so_far.within, so_far.inside, so_far.bound)) (omega (arith, so_far.within, so_far.inside, so_far.bound, ap length c.reserve_pieces.ensures.kept)) c.read_forward.ensures.asked)
+    c.length_by_now.ensures.asked
+
 pub returns-in-Some-clause-asked : goal.returns-in-Some-clause-asked
 returns-in-Some-clause-asked g c =
     let so_far = c.loop-bytes.invariant in
-    asked_on g.D.Disk.called (length c.loop-bytes.bytes.items) SEGMENT_BYTES_MAX c.args.disk.now c.loop-bytes.disk c.read_forward.new.disk _ _ so_far.asked
-    (omega (arith, so_far.within, so_far.inside, so_far.bound)) (omega (arith, so_far.within, so_far.inside, so_far.bound, ap length c.reserve_pieces.ensures.kept)) c.read_forward.ensures.asked
+    asked_length g.D.Disk.called SEGMENT_BYTES_MAX c.args.disk.now c.read_forward.new.disk c.length_by_now.new.disk
+    (asked_on g.D.Disk.called (length c.loop-bytes.bytes.items) SEGMENT_BYTES_MAX c.args.disk.now c.loop-bytes.disk c.read_forward.new.disk _ _ so_far.asked
+    (omega (arith, so_far.within, so_far.inside, so_far.bound)) (omega (arith, so_far.within, so_far.inside, so_far.bound, ap length c.reserve_pieces.ensures.kept)) c.read_forward.ensures.asked)
+    c.length_by_now.ensures.asked
 
 pub returns-in-Some-clause-no_further : goal.returns-in-Some-clause-no_further
 returns-in-Some-clause-no_further g c =
@@ -59,8 +68,10 @@ returns-in-Some-clause-no_further g c =
     ] in
     let most = furthest_piece (length c.truncate.new.self.items) in
     let within : c.loop-bytes.end ≤ most = omega (arith, far, count) in
-    asked_on g.D.Disk.called (length before) most c.args.disk.now c.loop-bytes.disk c.read_forward.new.disk _ _ so_far.asked
-    (omega (arith, so_far.within, within)) (omega (arith, so_far.within, within, ap length c.reserve_pieces.ensures.kept)) c.read_forward.ensures.asked
+    asked_length g.D.Disk.called most c.args.disk.now c.read_forward.new.disk c.length_by_now.new.disk
+    (asked_on g.D.Disk.called (length before) most c.args.disk.now c.loop-bytes.disk c.read_forward.new.disk _ _ so_far.asked
+    (omega (arith, so_far.within, within)) (omega (arith, so_far.within, within, ap length c.reserve_pieces.ensures.kept)) c.read_forward.ensures.asked)
+    c.length_by_now.ensures.asked
 
 pub loop-bytes-preserved : goal.loop-bytes-preserved
 loop-bytes-preserved g c =
@@ -70,14 +81,19 @@ loop-bytes-preserved g c =
     let more = c.in_default.ensures.more in
     let known = more.1 in
     let all : length c.deref-in-loop-bytes.result.now ≡ c.loop-bytes.end = ap length c.deref-in-loop-bytes.ensures.value ∙ longer.0 in
-    let to_go : c.loop-bytes.end < c.min-most.result = omega (arith, more.0, all) in
-    let next : c.min-end-in-loop-bytes.result ≡ min c.min-most.result (c.loop-bytes.end + c.min.result) = c.min-end-in-loop-bytes.ensures in
+    let most = c.in_ok-most-2.most in
+    let by_now = c.in_ok-most-2.ensures in
+    let to_go : c.loop-bytes.end < most = omega (arith, more.0, all) in
+    let far : c.max.result ≡ max PIECE_BYTES (c.loop-bytes.end + c.min.result) = c.max.ensures in
+    let next : c.min-end-in-loop-bytes.result ≡ min most c.max.result = c.min-end-in-loop-bytes.ensures in
     record {
-      within = omega (arith, next, longer.0, to_go);
+      within = omega (arith, far, next, longer.0, to_go);
       inside = omega (arith, next);
-      bound = so_far.bound;
-      least = next_least c.loop-bytes.end c.min-most.result c.min.result c.min-end-in-loop-bytes.result so_far.least to_go next;
-      all = so_far.all;
+      bound = by_now.within.1;
+      least = next_least most c.max.result c.min-end-in-loop-bytes.result (omega (arith, far)) next;
+      all = λ honest. by_now.same honest
+          (so_far.all honest ∙ ap (λ (l : List ℕ). min (length l) SEGMENT_BYTES_MAX)
+          (sym ((c.in_ok-read_forward.ensures.kept honest).same_content ∙ (so_far.kept honest).same_content))) ∙ so_far.all honest;
       first = λ honest. (
           let kept = so_far.kept honest in
           let content = g.D.Disk.content in
@@ -87,12 +103,15 @@ loop-bytes-preserved g c =
       kept = λ honest. (
           let kept = so_far.kept honest in
           let next = c.in_ok-read_forward.ensures.kept honest in
-          record { same_content = next.same_content ∙ kept.same_content; crash = λ left h. kept.crash left (next.crash left h) });
-      faults = c.in_ok-read_forward.ensures.faults ∙ so_far.faults;
-      asked = asked_on g.D.Disk.called (length before) (length c.read_forward.new.bytes.items) c.args.disk.now c.loop-bytes.disk c.read_forward.new.disk _ _ so_far.asked
-          (omega (arith, so_far.within, longer.0)) (omega (arith, so_far.within, longer.0, ap length c.reserve_pieces.ensures.kept)) c.read_forward.ensures.asked;
+          let last = by_now.kept honest in
+          record { same_content = last.same_content ∙ next.same_content ∙ kept.same_content; crash = λ left h. kept.crash left (next.crash left (last.crash left h)) });
+      faults = by_now.faults ∙ c.in_ok-read_forward.ensures.faults ∙ so_far.faults;
+      asked = asked_length g.D.Disk.called (length c.read_forward.new.bytes.items) c.args.disk.now c.read_forward.new.disk c.length_by_now.new.disk
+          (asked_on g.D.Disk.called (length before) (length c.read_forward.new.bytes.items) c.args.disk.now c.loop-bytes.disk c.read_forward.new.disk _ _ so_far.asked
+          (omega (arith, so_far.within, longer.0)) (omega (arith, so_far.within, longer.0, ap length c.reserve_pieces.ensures.kept)) c.read_forward.ensures.asked)
+          by_now.asked;
       pieces = inr (
-        omega (arith, next, longer.0, c.min.ensures),
+        omega (arith, far, next, longer.0, c.min.ensures),
         (
           known.0,
           known.1,

@@ -24,4 +24,4 @@ invariant-loop-bytes g l = record {
 }
 
 abbrev pub decreases-loop-bytes : goal.decreases-loop-bytes
-decreases-loop-bytes g l = l.most - l.end
+decreases-loop-bytes g l = SEGMENT_BYTES_MAX - l.end
