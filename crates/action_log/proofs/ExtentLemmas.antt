@@ -23,6 +23,7 @@ use Rattle.action_log.specs.Reading.{group_at}
 use Rattle.action_log.proofs.ValueReadingLemmas.{IsBytes-drop, IsBytes-rest, found_is}
 use Rattle.action_log.proofs.ActionReadingLemmas.{group_reads, counted_bytes}
 use Rattle.action_log.proofs.GroupLemmas.{joined_with}
+use Rattle.action_log.proofs.GroupReadingLemmas.{parts_more}
 use Rattle.action_log.proofs.SpellingLemmas.{all_append, all_push, length_tick}
 use Rattle.action_log.proofs.ReadingLemmas.{header_parts, mark_again, spellings_apart, reads_once}
 
@@ -67,10 +68,7 @@ module _ (format : Format) (most : ℕ) where
         record {
           groups = so_far.groups ++ group ∷ [];
           are_groups = all_push (IsGroup format) so_far.groups group so_far.are_groups taken.is;
-          parts = so_far.parts ∙ ap (λ (l : List ℕ). flat_map group_bytes so_far.groups ++ l) there
-              ∙ sym (append_assoc (flat_map group_bytes so_far.groups) (group_bytes group) next)
-              ∙ ap (λ (l : List ℕ). (flat_map group_bytes so_far.groups ++ l) ++ next) (sym (append-nil (group_bytes group)))
-              ∙ ap (λ (l : List ℕ). l ++ next) (sym (flat_map-append group_bytes so_far.groups (group ∷ [])));
+          parts = parts_more bytes so_far.groups rest group next so_far.parts there;
           counted = ap length (joined_with so_far.groups group) ∙ length-append (joined so_far.groups) group ∙ ap (λ (n : ℕ). n + length group) so_far.counted;
           few = few;
           are_bytes = taken.are_bytes;

@@ -1,17 +1,15 @@
 -- Groups one after another: how their reader takes them, and the groups and ticks that are read so far.
-use Rattle.std.proofs.Common.{◌≡◌, ℕ, zero, suc, ◌*◌, ◌<◌, ◌≤◌, Bool, true, false, cond, eqb, List, [], ◌∷◌, ◌++◌, length, Option, Some, None, refl, sym, ap, subst, ◌∙◌, append_assoc, arith}
+use Rattle.std.proofs.Common.{◌≡◌, ℕ, zero, suc, ◌+◌, ◌*◌, ◌<◌, ◌≤◌, Bool, true, false, cond, eqb, List, [], ◌∷◌, ◌++◌, length, Option, Some, None, refl, sym, ap, subst, ◌∙◌, append_assoc, arith}
 use Rattle.std.specs.List.{flat_map, AllByRecursion}
 use Rattle.std.proofs.lemmas.Bool.{ne_eqb, eqb-true, eqb-false, cond-false}
 use Rattle.std.proofs.lemmas.List.{length-append, append-nil}
 use Rattle.std.proofs.lemmas.List.Concat.{flat_map-append}
-use Rattle.world_actions.specs.declared.action.Action.{Action}
 use Rattle.world_ticks.specs.declared.tick.TheConstants.{TICK_ACTIONS}
 use Rattle.file_format.specs.declared.gate.TheConstants.{OPEN_GATE}
 use Rattle.file_format.specs.declared.format.Format.{Format}
 use Rattle.file_format.specs.Number.{IsBytes}
-use Rattle.action_log.specs.Segment.{Tick, joined, tick_bytes, IsGroup, group_bytes, EndsGroups}
-use Rattle.action_log.specs.Reading.{◌>>=◌, action_at, tick_at, group_at, groups_at, groups_of, ticks_of, AreAdded}
-use Rattle.action_log.specs.TickList.{actions_of}
+use Rattle.action_log.specs.Segment.{Tick, joined, actions_of, tick_bytes, IsGroup, group_bytes, EndsGroups}
+use Rattle.action_log.specs.Reading.{◌>>=◌, tick_at, group_at, groups_at, groups_of, ticks_of}
 use Rattle.action_log.proofs.ValueReadingLemmas.{IsBytes-rest, bind_some, found_is, AreRead}
 use Rattle.action_log.proofs.ActionReadingLemmas.{group_reads, counted_bytes}
 
@@ -70,8 +68,18 @@ groups_end format (suc n) (gate ∷ bytes) ends =
 
 -- ---- the part that is read so far
 
+-- bytes that begin with some groups, and then with one more
+pub parts_more : (bytes : List ℕ) (groups : List (List Tick)) (rest : List ℕ) (group : List Tick) (next : List ℕ) → bytes ≡ flat_map group_bytes groups ++ rest
+    → rest ≡ group_bytes group ++ next → bytes ≡ flat_map group_bytes (groups ++ group ∷ []) ++ next
+parts_more bytes groups rest group next parts there =
+    parts ∙ ap (λ (l : List ℕ). flat_map group_bytes groups ++ l) there
+    ∙ sym (append_assoc (flat_map group_bytes groups) (group_bytes group) next)
+    ∙ ap (λ (l : List ℕ). (flat_map group_bytes groups ++ l) ++ next) (sym (append-nil (group_bytes group)))
+    ∙ ap (λ (l : List ℕ). l ++ next) (sym (flat_map-append group_bytes groups (group ∷ [])))
+
 -- the groups of bytes are those done and those of the bytes that are left
 pub record IsReadTo (format : Format) (bytes : List ℕ) (done : List (List Tick)) (rest : List ℕ) : Type 0 where
+  pub parts : bytes ≡ flat_map group_bytes done ++ rest
   pub most : ℕ
   pub enough : length rest ≤ most
   pub are_bytes : IsBytes rest
@@ -79,7 +87,7 @@ pub record IsReadTo (format : Format) (bytes : List ℕ) (done : List (List Tick
 
 pub read_to_start : (format : Format) (bytes : List ℕ) → IsBytes bytes → IsReadTo format bytes [] bytes
 unfolding groups_of
-read_to_start format bytes fits = record { most = length bytes; enough = omega arith; are_bytes = fits; all = go (groups_at format (length bytes) bytes) }
+read_to_start format bytes fits = record { parts = refl; most = length bytes; enough = omega arith; are_bytes = fits; all = go (groups_at format (length bytes) bytes) }
   where
     go : (o : Option (List (List Tick) × List ℕ)) → (o >>= (λ found. Some found.0)) ≡ onto_groups [] (o >>= (λ found. Some found.0))
     go None = refl
@@ -92,12 +100,13 @@ groups_onto done more (Some others) = ap (λ l. Some l) (sym (append_assoc done 
 
 group_read : (format : Format) (bytes : List ℕ) (done : List (List Tick)) (rest behind : List ℕ) (group : List Tick)
     (next : List ℕ) (r : IsReadTo format bytes done rest) → length next < length rest → rest ≡ OPEN_GATE ∷ behind
-    → group_at format behind ≡ Some (group, next) → IsBytes next → IsReadTo format bytes (done ++ group ∷ []) next
-group_read format bytes done rest behind group next r fewer gate e fits =
+    → group_at format behind ≡ Some (group, next) → IsBytes next → rest ≡ group_bytes group ++ next → IsReadTo format bytes (done ++ group ∷ []) next
+group_read format bytes done rest behind group next r fewer gate e fits there =
     let go : (m : ℕ) → r.most ≡ m → IsReadTo format bytes (done ++ group ∷ []) next =
     λ m. elim m as (λ m. r.most ≡ m → IsReadTo format bytes (done ++ group ∷ []) next) [
       | zero ↦ λ is. absurd (omega (arith, is, r.enough, fewer))
       | suc m ↦ λ is. record {
+        parts = parts_more bytes done rest group next r.parts there;
         most = m;
         enough = omega (arith, is, r.enough, fewer);
         are_bytes = fits;
@@ -153,22 +162,16 @@ pub record IsReadOver (format : Format) (bytes : List ℕ) (groups ticks actions
   pub actions_are : length (actions_of (joined done)) ≡ actions
   pub so_far : IsReadTo format bytes done rest
 
--- some of the actions are read from bytes and added after others, and these bytes are left
-pub record IsTickRead (format : Format) (many counter : ℕ) (bytes rest : List ℕ) (before all : List Action) : Type 0 where
-  pub tick : Tick
-  pub read : AreRead (action_at format) many counter tick bytes rest
-  pub all_are : all ≡ before ++ tick
-
--- some of the ticks are read from bytes and added, and these bytes are left
-pub record IsGroupRead (format : Format) (many counter : ℕ) (bytes rest : List ℕ) (before : List Action) (ends : List ℕ) (all : List Action) (all_ends : List ℕ) : Type 0 where
+-- some of the ticks of a group are read from bytes and listed, and these bytes are left
+pub record IsGroupListed (format : Format) (many counter : ℕ) (bytes rest : List ℕ) (before all : List Tick) : Type 0 where
   pub ticks : List Tick
   pub read : AreRead (tick_at format) many counter ticks bytes rest
-  pub added : AreAdded ticks before ends all all_ends
+  pub all_are : all ≡ before ++ ticks
 
--- the ticks of these groups are read of bytes and added, and these bytes are left
-pub record AreGroupsRead (format : Format) (bytes rest : List ℕ) (before : List Action) (ends : List ℕ) (all : List Action) (all_ends : List ℕ) : Type 0 where
+-- the ticks of these groups are read from bytes and listed, and these bytes are left
+pub record AreGroupsListed (format : Format) (bytes rest : List ℕ) (all : List Tick) : Type 0 where
   pub done : List (List Tick)
-  pub added : AreAdded (joined done) before ends all all_ends
+  pub all_are : all ≡ joined done
   pub so_far : IsReadTo format bytes done rest
 
 -- the ticks are those of the groups
@@ -250,4 +253,13 @@ read_to_next format bytes done rest behind group next r gate e =
     let at = subst IsBytes gate r.are_bytes in
     let taken = (group_reads format).takes behind group next (IsBytes-rest OPEN_GATE behind at) e in
     let fewer : length next < length rest = omega (arith, ap length gate, ap length taken.parts, length-append (counted_bytes tick_bytes group) next) in
-    (group_read format bytes done rest behind group next r fewer gate e taken.are_bytes, fewer)
+    (group_read format bytes done rest behind group next r fewer gate e taken.are_bytes (gate ∙ ap (λ (l : List ℕ). OPEN_GATE ∷ l) taken.parts), fewer)
+
+-- ---- the number of actions
+
+pub length-actions_of-append : (xs ys : List Tick) → length (actions_of (xs ++ ys)) ≡ length (actions_of xs) + length (actions_of ys)
+length-actions_of-append xs ys = ap length (flat_map-append (λ (tick : Tick). tick) xs ys) ∙ length-append (actions_of xs) (actions_of ys)
+
+-- one more tick
+pub length-actions_of-with : (ticks : List Tick) (tick : Tick) → length (actions_of (ticks ++ tick ∷ [])) ≡ length (actions_of ticks) + length tick
+length-actions_of-with ticks tick = length-actions_of-append ticks (tick ∷ []) ∙ ap (λ l. length (actions_of ticks) + length l) (append-nil tick)

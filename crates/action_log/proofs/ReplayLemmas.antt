@@ -1,19 +1,22 @@
 -- Ticks that are replayed while they are read.
-use Rattle.std.proofs.Common.{◌≡◌, ℕ, length, ◌-◌, ◌+◌, ◌<◌, ◌≤◌, List, [], ◌∷◌, ◌++◌, Option, Some, None, Result, Ok, Err, refl, sym, ap, subst, ◌∙◌}
-use Rattle.std.specs.Prelude.{IsErr}
+use Rattle.std.proofs.Common.{◌≡◌, ℕ, length, ◌-◌, ◌+◌, ◌<◌, ◌≤◌, List, [], ◌∷◌, ◌++◌, Option, Some, None, Result, Ok, Err, refl, sym, ap, subst, ◌∙◌, append_assoc, arith}
+use Rattle.std.specs.Prelude.{IsOk, IsErr}
+use Rattle.std.specs.List.{flat_map}
 use Rattle.std.proofs.lemmas.Grind.{flat_map-append}
-use Rattle.std.proofs.lemmas.List.{append-nil}
+use Rattle.std.proofs.lemmas.List.{append-nil, length-append}
 use Rattle.world_actions.specs.declared.action.Action.{Action}
 use Rattle.world_ticks.specs.After.{and_then, after_actions}
 use Rattle.world_ticks.proofs.AfterLemmas.{after_actions-append}
 use Rattle.file_format.specs.declared.gate.TheConstants.{OPEN_GATE}
 use Rattle.file_format.specs.declared.format.Format.{Format}
-use Rattle.action_log.specs.Segment.{Tick, joined}
-use Rattle.action_log.specs.Reading.{Reader, action_at, tick_at, group_at, several_at, groups_of, ticks_of}
-use Rattle.action_log.specs.TickList.{actions_of}
+use Rattle.action_log.specs.declared.format.TheConstants.{FIRST_GROUP}
+use Rattle.action_log.specs.Segment.{Tick, joined, group_bytes}
+use Rattle.action_log.specs.HeldLog.{IsRefusedAt}
+use Rattle.action_log.specs.Reading.{Reader, action_at, tick_at, group_at, several_at, groups_of}
+use Rattle.action_log.specs.Segment.{actions_of}
 use Rattle.action_log.proofs.ValueReadingLemmas.{AreRead, read_next, read_none, bind_some, found_is, no_value}
 use Rattle.action_log.proofs.GroupLemmas.{joined_with}
-use Rattle.action_log.proofs.GroupReadingLemmas.{IsReadTo, groups_from, groups_by, read_to_bad, read_to_next}
+use Rattle.action_log.proofs.GroupReadingLemmas.{IsReadTo, groups_from, read_to_bad, read_to_next}
 
 -- ---- the world
 
@@ -136,21 +139,41 @@ pub record AreGroupsReplayed (format : Format) (most : ℕ) (bytes rest : List �
 pub none_at : {X : Type 0} {P : Type 0} {o : Option X} {x : X} → o ≡ None → o ≡ Some x → P
 none_at {x = x} none some = absurd (no_value x (sym none ∙ some))
 
--- a group that is refused: all ticks of these bytes are refused
-pub groups_stop : (format : Format) (bytes : List ℕ) (done : List (List Tick)) (rest behind : List ℕ) (world words : List ℕ)
+-- a group that is refused: the groups before it are those that are accepted, with this place and this number of ticks
+pub groups_stop : (format : Format) (bytes : List ℕ) (done : List (List Tick)) (rest behind : List ℕ) (place ticks : ℕ) (world words : List ℕ)
     → IsReadTo format bytes done rest → rest ≡ OPEN_GATE ∷ behind → after_actions world (actions_of (joined done)) ≡ Ok words
+    → place ≡ FIRST_GROUP + (length bytes - length rest) → length (joined done) ≡ ticks
     → ((ticks : List Tick) (next : List ℕ) → group_at format behind ≡ Some (ticks, next) → IsErr (after_actions words (actions_of ticks)))
-    → (all : List Tick) → ticks_of format bytes ≡ Some all → IsErr (after_actions world (actions_of all))
-groups_stop format bytes done rest behind world words r gate so_far refused all e =
-    let groups = groups_by format bytes all e in
-    go groups (group_at format behind) refl
+    → (groups : List (List Tick)) → groups_of format bytes ≡ Some groups → IsRefusedAt groups world place ticks
+groups_stop format bytes done rest behind place ticks world words r gate so_far at counted refused groups e =
+    go (group_at format behind) refl
   where
-    go : ((groups : List (List Tick)) × (groups_of format bytes ≡ Some groups) × (joined groups ≡ all)) → (o : Option (List Tick × List ℕ)) → group_at format behind ≡ o
-        → IsErr (after_actions world (actions_of all))
-    go groups None is = none_at (read_to_bad format bytes done rest behind r gate is) groups.1
-    go groups (Some p) is =
+    go : (o : Option (List Tick × List ℕ)) → group_at format behind ≡ o → IsRefusedAt groups world place ticks
+    go None is = none_at (read_to_bad format bytes done rest behind r gate is) e
+    go (Some p) is =
         let next = (read_to_next format bytes done rest behind p.0 p.1 r gate is).0 in
-        let more = groups_prefix format bytes (done ++ p.0 ∷ []) p.1 groups.0 next groups.1 in
-        let ticks : (joined done ++ p.0) ++ joined more.0 ≡ all =
-        ap (λ l. l ++ joined more.0) (sym (joined_with done p.0)) ∙ sym (flat_map-append (λ (group : List Tick). group) (done ++ p.0 ∷ []) more.0) ∙ ap joined more.1 ∙ groups.2 in
-        subst (λ l. IsErr (after_actions world (actions_of l))) ticks (ticks_refused world words (joined done) p.0 (joined more.0) so_far (refused p.0 p.1 is))
+        let more = groups_prefix format bytes (done ++ p.0 ∷ []) p.1 groups next e in
+        let here : after_actions world (actions_of (joined (done ++ p.0 ∷ []))) ≡ after_actions words (actions_of p.0) =
+        ap (λ l. after_actions world (actions_of l)) (joined_with done p.0) ∙ ap (after_actions world) (actions_with (joined done) p.0)
+        ∙ after_actions-append world (actions_of (joined done)) (actions_of p.0) ∙ ap (λ r. and_then r (λ next. after_actions next (actions_of p.0))) so_far in
+        record {
+          kept = done;
+          group = p.0;
+          later = more.0;
+          split = sym more.1 ∙ append_assoc done (p.0 ∷ []) more.0;
+          accepted = subst (λ r. IsOk r) (sym so_far) refl;
+          refused = subst (λ r. IsErr r) (sym here) (refused p.0 p.1 is);
+          place_is = omega (arith, at, ap length r.parts, length-append (flat_map group_bytes done) rest);
+          ticks_is = sym counted;
+        }
+
+-- all ticks are refused if those up to a group are
+pub refused_at : (groups : List (List Tick)) (world : List ℕ) (place ticks : ℕ) → IsRefusedAt groups world place ticks → IsErr (after_actions world (actions_of (joined groups)))
+refused_at groups world place ticks at =
+    let all : joined groups ≡ joined (at.kept ++ at.group ∷ []) ++ joined at.later =
+    ap joined (at.split ∙ sym (append_assoc at.kept (at.group ∷ []) at.later)) ∙ flat_map-append (λ (group : List Tick). group) (at.kept ++ at.group ∷ []) at.later in
+    let first = actions_of (joined (at.kept ++ at.group ∷ [])) in
+    subst (λ r. IsErr r)
+    (sym (ap (λ l. after_actions world (actions_of l)) all ∙ ap (after_actions world) (actions_with (joined (at.kept ++ at.group ∷ [])) (joined at.later))
+    ∙ after_actions-append world first (actions_of (joined at.later))))
+    (refused_on (after_actions world first) (λ next. after_actions next (actions_of (joined at.later))) at.refused)

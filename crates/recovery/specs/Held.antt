@@ -1,7 +1,7 @@
 -- Inside: for the proofs of this crate's private functions.
 -- The contents of files as the program holds them.
-use Rattle.std.specs.Prelude.{◌≡◌, ◌⊎◌, ◌≤◌, ℕ, ◌||◌, true, List, Result, Err, IsErr}
-use Rattle.std.specs.Prelude.{if◌then◌else◌}
+use Rattle.std.specs.Prelude.{◌≡◌, ◌⊎◌, ◌≤◌, ℕ, ◌||◌, true, List, Option, Some, None, Result, Err}
+use Rattle.std.specs.Prelude.{IsErr, if◌then◌else◌}
 use Rattle.world_actions.specs.declared.refusal.Refusal.{Refusal}
 use Rattle.world_actions.specs.declared.refusal.Refusal.TheVariants.{BadLog, NoImage}
 use Rattle.world_actions.specs.World.{IsWorld}
@@ -9,9 +9,8 @@ use Rattle.world_ticks.specs.declared.tick.TheConstants.{TICK_MAX}
 use Rattle.image_files.specs.Image.{Image, Closed, Bad, Open}
 use Rattle.world_ticks.specs.After.{after_actions}
 use Rattle.action_log.specs.declared.reader.HeldLog.{HeldLog}
-use Rattle.action_log.specs.declared.reader.HeldLog.TheVariants as log
 use Rattle.action_log.specs.Segment.{Segment}
-use Rattle.action_log.specs.TickList.{actions_of}
+use Rattle.action_log.specs.Segment.{actions_of}
 use Rattle.recovery.specs.declared.newest.Newest.{Newest as Found}
 use Rattle.recovery.specs.Recovery.{Newest, Recovery, is_bad_segment, replayed, tail, ticks_from}
 
@@ -22,9 +21,9 @@ IsBoundedImage Bad = ⊥
 IsBoundedImage (Open tick words) = (tick ≤ TICK_MAX) × IsWorld words
 
 -- the base of an open header is within its bound
-abbrev pub IsNumbered : HeldLog → Type 0
-IsNumbered log.Closed = Unit {0}
-IsNumbered (log.Open ticks) = ticks.base ≤ TICK_MAX
+abbrev pub IsNumbered : Option HeldLog → Type 0
+IsNumbered None = Unit {0}
+IsNumbered (Some log) = log.base ≤ TICK_MAX
 
 -- the newest image
 abbrev pub newest_in : Found → Newest

@@ -146,13 +146,13 @@ reads_closed : (t : ℕ) (words : List ℕ) (formed : LogPart) → Reads t words
 reads_closed t words formed = record { accepted = refl; begins = λ u h. absurd cc; stands = inr refl }
 
 reads_groups : (t : ℕ) (words bytes : List ℕ) (formed part : LogPart) (k : IsKept bytes formed)
-    (r : IsRefused t words (kept_log formed bytes) part) → Reads t words formed (OpenSegment t (joined r.kept))
+    (r : IsRefused t words (kept_log formed bytes) part) → Reads t words formed (OpenSegment t (joined r.refused.kept))
 reads_groups t words bytes formed part k r =
     let whole : segment_of formed k.list ≡ OpenSegment t r.list = reads_once (kept_log formed bytes) (segment_of formed k.list) (OpenSegment t r.list) k.reads r.segment in
     record {
       accepted =
-          from_accepted t words (OpenSegment t (joined r.kept))
-          (λ list is. subst (λ l. IsOk (words_after words l)) (let same : joined r.kept ≡ list = one_list t (joined r.kept) list is in same) r.accepted);
+          from_accepted t words (OpenSegment t (joined r.refused.kept))
+          (λ list is. subst (λ l. IsOk (words_after words l)) (let same : joined r.refused.kept ≡ list = one_list t (joined r.refused.kept) list is in same) r.refused.accepted);
       begins = λ u h. begins_of u formed k.list ∙ ap (has_base u) whole ∙ h;
       stands = inl (eq-eqb t t refl);
     }

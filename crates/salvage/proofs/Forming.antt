@@ -115,21 +115,24 @@ pub record ReadsBefore (base : ℕ) (kept : List (List Tick)) (bytes : List ℕ)
   pub is_kept : IsKept bytes part
   pub list_is : (part ≡ logs.Dropped) ⊎ (segment_of part is_kept.list ≡ OpenSegment base (joined kept))
 
-pub reads_before : (base : ℕ) (words bytes : List ℕ) (formed part : LogPart) → FitsIn formed bytes → (r : IsRefused base words (kept_log formed bytes) part) → ReadsBefore base r.kept bytes part
+pub reads_before : (base : ℕ) (words bytes : List ℕ) (formed part : LogPart) → FitsIn formed bytes → (r : IsRefused base words (kept_log formed bytes) part)
+    → ReadsBefore base r.refused.kept bytes part
 reads_before base words bytes formed part fits r =
-    let within = place_within (kept_log formed bytes) base r.list r.segment r.kept (r.group ∷ r.later) r.split in
-    let at = FIRST_GROUP + length (flat_map group_bytes r.kept) in
+    let stop = r.refused in
+    let within = place_within (kept_log formed bytes) base r.list r.segment stop.kept (stop.group ∷ stop.later) stop.split in
+    let at = FIRST_GROUP + length (flat_map group_bytes stop.kept) in
     let same = take_kept formed bytes at fits (omega arith) within in
-    subst (ReadsBefore base r.kept bytes) (sym r.part_is) (go (length (joined r.kept)) refl same.0 same.1)
+    subst (ReadsBefore base stop.kept bytes) (sym (r.part_is ∙ ap (λ n. part_before base n r.ticks) stop.place_is)) (go r.ticks (sym stop.ticks_is) same.0 same.1)
   where
-    go : (n : ℕ) → length (joined r.kept) ≡ n → FIRST_GROUP + length (flat_map group_bytes r.kept) ≤ length bytes
-        → take (FIRST_GROUP + length (flat_map group_bytes r.kept)) (kept_log formed bytes) ≡ take (FIRST_GROUP + length (flat_map group_bytes r.kept)) bytes
-        → ReadsBefore base r.kept bytes (part_before base (FIRST_GROUP + length (flat_map group_bytes r.kept)) n)
+    go : (n : ℕ) → length (joined r.refused.kept) ≡ n → FIRST_GROUP + length (flat_map group_bytes r.refused.kept) ≤ length bytes
+        → take (FIRST_GROUP + length (flat_map group_bytes r.refused.kept)) (kept_log formed bytes) ≡ take (FIRST_GROUP + length (flat_map group_bytes r.refused.kept)) bytes
+        → ReadsBefore base r.refused.kept bytes (part_before base (FIRST_GROUP + length (flat_map group_bytes r.refused.kept)) n)
     go zero many inside same = record { is_kept = kept_nothing bytes; list_is = inl refl }
     go (suc n) many inside same = record {
       is_kept = record {
-        list = joined r.kept;
-        reads = subst (λ l. IsSegment l (OpenSegment base (joined r.kept))) same (cut_segment (kept_log formed bytes) base r.list r.segment r.kept (r.group ∷ r.later) r.split (omega (arith, many)));
+        list = joined r.refused.kept;
+        reads = subst (λ l. IsSegment l (OpenSegment base (joined r.refused.kept))) same
+            (cut_segment (kept_log formed bytes) base r.list r.segment r.refused.kept (r.refused.group ∷ r.refused.later) r.refused.split (omega (arith, many)));
         fits = inside;
       };
       list_is = inr refl;

@@ -1,4 +1,3 @@
-pub mod Spelled
 pub mod Forming
 pub mod Replaying
 pub mod Along

@@ -1,8 +1,7 @@
 -- What is taken of files, and of files that recovery accepts.
-use Rattle.std.proofs.Common.{◌≡◌, ℕ, ◌+◌, ◌⊎◌, inl, inr, Bool, true, false, cond, ◌||◌, List, [], ◌∷◌, ◌++◌, length, Result, Ok, Err, refl, sym, ap, subst, ◌∙◌, append_assoc, eq-eqb}
+use Rattle.std.proofs.Common.{◌≡◌, ℕ, ◌+◌, ◌⊎◌, inl, inr, Bool, true, false, cond, ◌||◌, List, [], ◌++◌, length, Result, Ok, Err, refl, sym, ap, subst, ◌∙◌, eq-eqb}
 use Rattle.std.specs.Prelude.{IsOk, IsErr}
 use Rattle.std.proofs.lemmas.Bool.{cond-true}
-use Rattle.std.proofs.lemmas.List.Concat.{flat_map-append}
 use Rattle.world_actions.specs.declared.refusal.Refusal.{Refusal}
 use Rattle.world_actions.specs.declared.refusal.Refusal.TheVariants.{BadImage, BadLog}
 use Rattle.world_ticks.specs.After.{and_then}
@@ -10,6 +9,7 @@ use Rattle.image_files.specs.Image.{Image, Closed, Bad, Open, image_of}
 use Rattle.image_files.specs.Reading.{IsOpenImage}
 use Rattle.action_log.specs.Segment.{Tick, joined, Segment, MalformedSegment, OpenSegment, IsSegment}
 use Rattle.action_log.proofs.ReadingLemmas.{reads_once}
+use Rattle.action_log.proofs.ReplayLemmas.{refused_at}
 use Rattle.recovery.specs.Recovery.{Recovery, Recovers, newest, has_base, ticks_from, ticks_along, tail, words_after, recovery_of, recovery_from, recovery_with, is_bad_image, is_bad_segment}
 use Rattle.recovery.proofs.Replay.{words_after-append}
 use Rattle.salvage.specs.declared.image_part.ImagePart.{ImagePart}
@@ -19,7 +19,6 @@ use Rattle.salvage.specs.declared.log_part.LogPart.TheVariants as logs
 use Rattle.salvage.specs.Parts.{kept_image, IsImagePart, kept_log, segment_of, begins_at, IsKept, IsFormed}
 use Rattle.salvage.specs.Replay.{IsRefused, IsReplayed}
 use Rattle.salvage.specs.Salvage.{AreReplayed, AreReplayedInOrder, IsImageTaken, IsLogTaken, IsAllTaken}
-use Rattle.salvage.proofs.Replaying.{front_accepted, front_refused}
 use Rattle.salvage.proofs.Along.{OnNewest, newest_on, tail_first, tail_second, begins_of, Answers, answers_first, answers_second, first_taken, second_taken}
 
 -- ---- images
@@ -81,16 +80,22 @@ taken_answers image_a image_b log_a log_b formed_a formed_b part_a part_b ka kb 
 from_here : (t : ℕ) (list : List Tick) → ticks_from t (OpenSegment t list) ≡ list
 from_here t list = cond-true _ list [] (eq-eqb t t refl)
 
+-- the front of accepted ticks is accepted
+front_accepted : (world : List ℕ) (front more : List Tick) → IsOk (words_after world (front ++ more)) → IsOk (words_after world front)
+front_accepted world front more ok = go (words_after world front) (subst (λ r. IsOk r) (words_after-append world front more) ok)
+  where
+    go : (r : Result (List ℕ) Refusal) → IsOk (and_then r (λ next. words_after next more)) → IsOk r
+    go (Ok next) ok = refl
+    go (Err refusal) ok = absurd cc
+
 -- no action of an accepted segment is refused
 none_refused : (t : ℕ) (words bytes : List ℕ) (part : LogPart) (s : Segment) → IsSegment bytes s → IsOk (words_after words (ticks_from t s)) → IsRefused t words bytes part → ⊥
 none_refused t words bytes part s reads ok r =
     let is : s ≡ OpenSegment t r.list = reads_once bytes s (OpenSegment t r.list) reads r.segment in
-    let front : List Tick = joined (r.kept ++ r.group ∷ []) in
-    let all : r.list ≡ front ++ joined r.later =
-    r.segment.of_groups ∙ ap joined (r.split ∙ sym (append_assoc r.kept (r.group ∷ []) r.later)) ∙ flat_map-append (λ (group : List Tick). group) (r.kept ++ r.group ∷ []) r.later in
-    let good : IsOk (words_after words (front ++ joined r.later)) =
-    subst (λ l. IsOk (words_after words l)) (ap (ticks_from t) is ∙ from_here t r.list ∙ all) ok in
-    clash (words_after words (front ++ joined r.later)) good (front_refused words front (joined r.later) r.refused)
+    let all : words_after words (joined r.segment.groups) ≡ words_after words r.list = ap (words_after words) (sym r.segment.of_groups) in
+    let good : IsOk (words_after words (joined r.segment.groups)) =
+    subst (λ o. IsOk o) (ap (λ s. words_after words (ticks_from t s)) is ∙ ap (words_after words) (from_here t r.list) ∙ sym all) ok in
+    clash (words_after words (joined r.segment.groups)) good (refused_at r.segment.groups words r.at r.ticks r.refused)
   where
     clash : (x : Result (List ℕ) Refusal) → IsOk x → IsErr x → ⊥
     clash (Ok w) ok err = absurd cc

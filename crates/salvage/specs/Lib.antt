@@ -1,4 +1,3 @@
 pub mod Parts
-pub mod Groups
 pub mod Replay
 pub mod Salvage

@@ -1,9 +1,7 @@
 -- The part of a segment that is accepted again.
-use Rattle.std.specs.Prelude.{◌≡◌, ◌⊎◌, ℕ, ◌+◌, zero, suc, List, [], ◌∷◌, ◌++◌, length, IsOk, IsErr}
-use Rattle.std.specs.List.{flat_map}
-use Rattle.action_log.specs.declared.format.TheConstants.{FIRST_GROUP}
-use Rattle.action_log.specs.Segment.{Tick, joined, group_bytes, OpenSegment, IsSegment}
-use Rattle.action_log.specs.Segment.{IsOpenSegment}
+use Rattle.std.specs.Prelude.{◌≡◌, ◌⊎◌, ℕ, zero, suc, List, IsOk}
+use Rattle.action_log.specs.Segment.{Tick, OpenSegment, IsSegment, IsOpenSegment}
+use Rattle.action_log.specs.HeldLog.{IsRefusedAt}
 use Rattle.recovery.specs.Recovery.{words_after}
 use Rattle.salvage.specs.declared.log_part.LogPart.{LogPart}
 use Rattle.salvage.specs.declared.log_part.LogPart.TheVariants as logs
@@ -19,14 +17,10 @@ part_before base at (suc ticks) = logs.Cut at base (suc ticks)
 pub record IsRefused (base : ℕ) (words bytes : List ℕ) (part : LogPart) : Type 0 where
   pub list : List Tick
   pub segment : IsOpenSegment bytes base list
-  pub kept : List (List Tick)
-  pub group : List Tick
-  pub later : List (List Tick)
-  pub split : segment.groups ≡ kept ++ group ∷ later
-  pub accepted : IsOk (words_after words (joined kept))
-  pub refused : IsErr (words_after words (joined (kept ++ group ∷ [])))
-  pub part_is : part
-      ≡ part_before base (FIRST_GROUP + length (flat_map group_bytes kept)) (length (joined kept))
+  pub at : ℕ
+  pub ticks : ℕ
+  pub refused : IsRefusedAt segment.groups words at ticks
+  pub part_is : part ≡ part_before base at ticks
 
 -- The part stays, except if it begins at the world's tick and an action of it is refused.
 abbrev pub IsReplayed : (tick : ℕ) → (words bytes : List ℕ) → (formed part : LogPart) → Type 0

@@ -6,7 +6,6 @@
 //! empty counts as closed. Nothing is written.
 #![tactic(auto)]
 
-mod groups;
 mod image_part;
 mod log_part;
 mod replay;

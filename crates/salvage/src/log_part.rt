@@ -1,13 +1,10 @@
-ghost use Rattle.std.specs.Prelude.{◌≡◌, IfOk, IfErr};
-ghost use Rattle.action_log.specs.Segment.{MalformedSegment, IsSegment, HasTicks};
+ghost use Rattle.std.specs.Prelude.{◌≡◌};
+ghost use Rattle.action_log.specs.Segment.{MalformedSegment, IsSegment};
 ghost use Rattle.salvage.specs.Parts.{IsFormed, IsKept};
 ghost use Rattle.salvage.specs.Replay.{part_before};
 
-use crate::groups::Leading;
-use action_log::{LogState, extent_of, read_log, segment_extents};
+use action_log::{Extent, extent_of, judge_log, segment_extents};
 use file_format::marked_at;
-use std::alloc::Global;
-use world_actions::Refusal;
 
 /// What is taken of a log file.
 #[derive(Clone, Copy, Debug, PartialEq, Eq)]
@@ -50,21 +47,18 @@ impl LogPart {
     }
 }
 
-/// Judges a log file only by its bytes, before anything of it is replayed. It takes memory for the
-/// ticks of a whole segment, and gives it back.
-pub fn formed_part(alloc: Global, bytes: &[u8]) -> Result<LogPart, Refusal>
-    ensures part { IfOk result (λ part. IsFormed bytes.now part) }
-    ensures kept { IfOk result (λ part. IsKept bytes.now part) }
-    ensures memory { IfErr result (λ refusal. (refusal ≡ Refusal.NoMemory) × HasTicks bytes.now) }
+/// Judges a log file only by its bytes, before anything of it is replayed. It takes no memory.
+pub fn formed_part(bytes: &[u8]) -> LogPart
+    ensures part { IsFormed bytes.now result }
+    ensures kept { IsKept bytes.now result }
 {
-    match read_log(alloc, bytes) {
-        Ok(LogState::Closed) => Ok(LogPart::Closed),
-        Ok(LogState::Open { base, ticks }) => Ok(LogPart::Whole {
-            base,
-            ticks: ticks.len(),
-        }),
-        Err(Refusal::BadLog) => Ok(leading_part(bytes)),
-        Err(refusal) => Err(refusal),
+    match judge_log(bytes) {
+        Ok(None) => LogPart::Closed,
+        Ok(Some((log, counts))) => LogPart::Whole {
+            base: log.base,
+            ticks: counts.ticks,
+        },
+        Err(_) => leading_part(bytes),
     }
 }
 
@@ -81,22 +75,18 @@ fn leading_part(bytes: &[u8]) -> LogPart
     let Some((_, base)) = marked_at(bytes) else {
         return LogPart::Dropped;
     };
-    let leading = Leading {
-        at: extent.groups_end,
-        ticks: extent.ticks,
-    };
-    part_before(base, leading)
+    part_before(base, extent)
 }
 
 /// Returns the part of a segment with these leading groups.
-pub fn part_before(base: u64, leading: Leading) -> LogPart
-    ensures { result ≡ part_before base leading.at leading.ticks }
+pub fn part_before(base: u64, leading: Extent) -> LogPart
+    ensures { result ≡ part_before base leading.groups_end leading.ticks }
 {
     if leading.ticks == 0 {
         return LogPart::Dropped;
     }
     LogPart::Cut {
-        at: leading.at,
+        at: leading.groups_end,
         base,
         ticks: leading.ticks,
     }

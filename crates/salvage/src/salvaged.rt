@@ -60,11 +60,11 @@ pub fn salvage(
     };
     let log_a = Log {
         bytes: log_a,
-        part: formed_part(alloc, log_a)?,
+        part: formed_part(log_a),
     };
     let log_b = Log {
         bytes: log_b,
-        part: formed_part(alloc, log_b)?,
+        part: formed_part(log_b),
     };
     let (log_part_a, log_part_b) = replayed_parts(alloc, images, log_a, log_b)?;
     let kept_a = log_part_a.kept(log_a.bytes);
@@ -142,8 +142,8 @@ fn replayed_along(
         × IsKept second.entry.bytes.now parts.1) }
     ensures memory { IfErr result (λ refusal. refusal ≡ Refusal.NoMemory) }
 {
-    let part = replayed_part(alloc, newest, first.bytes, first.part)?;
+    let part = replayed_part(newest, first.bytes, first.part);
     let reached = recover(alloc, images.a, images.b, part.kept(first.bytes), &[])?;
-    let next = replayed_part(alloc, reached, second.bytes, second.part)?;
+    let next = replayed_part(reached, second.bytes, second.part);
     Ok((part, next))
 }

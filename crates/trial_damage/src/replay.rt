@@ -11,9 +11,11 @@ pub fn replay_on(world: &mut Recovered, log: &LogState) -> bool {
     if *base != world.tick {
         return true;
     }
-    for action in ticks.actions() {
-        if change(&mut world.words, *action).is_none() {
-            return false;
+    for tick in ticks {
+        for action in tick {
+            if change(&mut world.words, *action).is_none() {
+                return false;
+            }
         }
     }
     world.tick = world.tick.saturating_add(ticks.len() as u64);

@@ -196,8 +196,8 @@ fn make_empty<F: Folder>(
     opened(alloc, path, file.name(), disk)
 }
 
-// What became of a file that wasn't there before it was made. If it is there now, another program
-// has begun to make a world meanwhile.
+// Returns the answer to the making of a file that wasn't there before. If it is there now, another
+// program has begun to make a world meanwhile.
 fn made_alone<T>(answer: io::Result<T>) -> io::Result<T>
     ensures ok { IfOk answer (λ value. result ≡ Ok value) }
     ensures meanwhile { IfErr answer (λ error. error_kind error ≡ ErrorKind.AlreadyExists

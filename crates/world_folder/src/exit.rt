@@ -18,8 +18,8 @@ use world_actions::Refusal;
 /// The exit statuses of a program.
 #[derive(Clone, Copy, Debug, PartialEq, Eq)]
 pub enum Statuses {
-    /// 0, 1 after a fault, and 2 for a wrong command line. A server also has 11 and 12, a command
-    /// whose world may be older 14, and a check of a world that isn't well 11, 12, 15 and 16.
+    /// 0, 1 after a fault, and 2 for a wrong command line. A server also has 11 and 12. A command
+    /// whose world may be older has 14. A check of a world that isn't well has 11, 12, 15 and 16.
     Plain,
     /// Beside these 13 after a shortage, and 10 of a server whose listener failed.
     Detailed,

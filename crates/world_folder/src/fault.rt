@@ -133,7 +133,7 @@ pub fn stands_in(alloc: Global, files: &FourFiles<Vec<u8>>, checks: Checks) -> R
     }
 }
 
-// What recovery finds in four files, or the reason why it finds no world.
+// Recovers the world in four files, or returns the reason why there is none.
 fn found_in(alloc: Global, files: &FourFiles<Vec<u8>>) -> Result<Recovered, Fault>
     ensures recovered { IfOk result (Stands files.now) }
     ensures fault { IfErr result (λ fault. (asked : Asked) → Explains asked files.now fault) }
@@ -194,8 +194,5 @@ fn is_bad_image(alloc: Global, bytes: &[u8]) -> bool
 fn is_bad_segment(bytes: &[u8]) -> bool
     ensures { IsTrue result ↔ IsSegment bytes.now MalformedSegment }
 {
-    match judge_log(bytes) {
-        Ok(_) => false,
-        Err(_) => true,
-    }
+    judge_log(bytes).is_err()
 }

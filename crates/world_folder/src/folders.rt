@@ -71,7 +71,7 @@ pub trait Folder {
     /// The file that a disk was taken of.
     ghost identity: { Self.File → FileIdentity };
 
-    /// What stands under a name, if anything does. It follows no symbolic link.
+    /// The entry under a name, if there is one. It follows no symbolic link.
     fn look(&mut self, file: WorldFile) -> io::Result<Option<Entry>>
         ensures looked { IsTrue honest
             → IfOk result (λ there. history self.new ≡ Looked file there ∷ history self.old) }

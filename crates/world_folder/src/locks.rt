@@ -51,7 +51,7 @@ pub fn lock_state(file: &File) -> LockState {
     state_of(answer)
 }
 
-// What the answer to a reader says.
+// Returns the state of a lock by the answer to a reader.
 fn state_of(answer: Result<(), TryLockError>) -> LockState
     ensures free { IsOk answer → result ≡ LockState.Free }
     ensures held { answer ≡ Err TryLockError.WouldBlock → result ≡ LockState.Held }

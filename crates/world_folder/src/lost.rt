@@ -66,8 +66,8 @@ pub enum Lost {
     Gap(Slot),
     /// This image is closed beside one of a tick above 0, and not by the gate that a write leaves.
     ChangedImage(Slot),
-    /// This log is closed although a tick is recovered, and not by the gate that a write leaves; or
-    /// it is log.a and has no header of the second format, beside one of log.b.
+    /// This log is closed although a tick is recovered, and not by the gate that a write leaves. Or
+    /// it is log.a without a header of the second format, and log.b has one.
     ChangedLog(Slot),
     /// The world is older than its guard.
     Older(Older),
@@ -176,7 +176,7 @@ fn older_of(guard: Option<Guard>, tick: u64) -> Option<Lost>
     guard?.older(tick).map(Lost::Older)
 }
 
-// What was lost of four files with these bytes.
+// Returns the loss of four files with these bytes, if there is one.
 fn lost_of(on_loss: OnLoss, tick: u64, from: u64, files: &FourFiles<Vec<u8>>) -> Option<Lost>
     ensures of_file { IfSome result IsOfFile }
     ensures lost { result ≡ lost_of on_loss tick from files.now.image_a.items
@@ -188,7 +188,7 @@ fn lost_of(on_loss: OnLoss, tick: u64, from: u64, files: &FourFiles<Vec<u8>>) ->
     }
 }
 
-// What was lost of four files because a file is empty, or a log's beginning is missing.
+// Returns the loss of a file that is empty, or of a log whose beginning is missing.
 fn emptied_file(on_loss: OnLoss, tick: u64, from: u64, files: &FourFiles<Vec<u8>>) -> Option<Lost>
     ensures of_file { IfSome result IsOfFile }
     ensures lost { result ≡ emptied_file on_loss tick from files.now.image_a.items

@@ -1,18 +1,17 @@
 -- The figures of a world.
-use Rattle.std.specs.Prelude.{◌≡◌, ℕ, nat_lt, Option, Some, None, if◌then◌else◌}
+use Rattle.std.specs.Prelude.{◌≡◌, ℕ, nat_lt, List, length, Option, Some, None, if◌then◌else◌}
 use Rattle.file_format.specs.declared.slot.Slot.{Slot}
 use Rattle.file_format.specs.declared.slot.Slot.TheVariants.{A, B}
 use Rattle.recovery.specs.declared.recovered.Recovered.{Recovered}
 use Rattle.world_reports.specs.declared.figures.Figures.{Figures as FiguresValue}
-use Rattle.world_reports.specs.declared.file_reports.LogReport.{LogReport}
-use Rattle.world_reports.specs.declared.file_reports.LogReport.TheVariants.{Open}
+use Rattle.action_log.specs.Segment.{Tick, IsOpenSegment}
 use Rattle.world_folder.specs.Fault.{Files}
-use Rattle.world_reports.specs.FileReports.{IsLogReport}
 
 -- the base of an open segment, and how many ticks it has
-abbrev pub reported_segment : LogReport → Option (ℕ × ℕ)
-reported_segment (Open format base groups ticks) = Some (base, ticks)
-reported_segment log = None
+abbrev pub IsOpened : List ℕ → Option (ℕ × ℕ) → Type 0
+IsOpened bytes (Some (base, count)) =
+    (ticks : List Tick) × IsOpenSegment bytes base ticks × (length ticks ≡ count)
+IsOpened bytes None = (base : ℕ) (ticks : List Tick) → ¬ IsOpenSegment bytes base ticks
 
 -- of two segments the open one with the greater base, log.b if both have it, and how
 -- many ticks it has
@@ -28,8 +27,8 @@ pub record AreFigures (files : Files) (found : Recovered) (figures : FiguresValu
   pub tick : figures.tick ≡ found.tick
   pub image : figures.image ≡ found.from
   pub slot : figures.slot ≡ found.slot
-  pub log_a : LogReport
-  pub log_b : LogReport
-  pub reported_a : IsLogReport files.log_a.items log_a
-  pub reported_b : IsLogReport files.log_b.items log_b
-  pub segment : figures.segment ≡ current_segment (reported_segment log_a) (reported_segment log_b)
+  pub log_a : Option (ℕ × ℕ)
+  pub log_b : Option (ℕ × ℕ)
+  pub opened_a : IsOpened files.log_a.items log_a
+  pub opened_b : IsOpened files.log_b.items log_b
+  pub segment : figures.segment ≡ current_segment log_a log_b

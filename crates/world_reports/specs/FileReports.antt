@@ -6,10 +6,8 @@ use Rattle.file_format.specs.Format.{format_in}
 use Rattle.image_files.specs.Image.{image_of, Closed, Bad, Open}
 use Rattle.action_log.specs.Segment.{Tick, ClosedSegment, MalformedSegment, IsSegment}
 use Rattle.action_log.specs.Segment.{IsOpenSegment}
-use Rattle.world_reports.specs.declared.file_reports.ImageReport.{ImageReport}
-use Rattle.world_reports.specs.declared.file_reports.ImageReport.TheVariants as image
-use Rattle.world_reports.specs.declared.file_reports.LogReport.{LogReport}
-use Rattle.world_reports.specs.declared.file_reports.LogReport.TheVariants as log
+use Rattle.world_reports.specs.declared.file_reports.FileReport.{FileReport}
+use Rattle.world_reports.specs.declared.file_reports.FileReport.TheVariants as report
 
 -- the number by which people know a format
 abbrev pub format_number : Format → ℕ
@@ -18,18 +16,20 @@ format_number Second = 2
 
 -- the report on an image file's bytes: of an open image the format by its mark, the number of
 -- cells, and its tick
-abbrev pub IsImageReport : List ℕ → ImageReport → Type 0
-IsImageReport bytes image.Closed = image_of bytes ≡ Closed
-IsImageReport bytes image.Damaged = image_of bytes ≡ Bad
-IsImageReport bytes (image.Open format cells tick) =
+abbrev pub IsImageReport : List ℕ → FileReport → Type 0
+IsImageReport bytes report.Closed = image_of bytes ≡ Closed
+IsImageReport bytes report.Damaged = image_of bytes ≡ Bad
+IsImageReport bytes (report.Image format cells tick) =
     (format_in bytes ≡ Some format) × (words : List ℕ)
     × (image_of bytes ≡ Open tick words) × (cells ≡ length words)
+IsImageReport bytes (report.Log format base groups ticks) = ⊥
 
 -- the report on a log file's bytes: of an open segment its format, its base, and the numbers of
 -- groups and ticks
-abbrev pub IsLogReport : List ℕ → LogReport → Type 0
-IsLogReport bytes log.Closed = IsSegment bytes ClosedSegment
-IsLogReport bytes log.Damaged = IsSegment bytes MalformedSegment
-IsLogReport bytes (log.Open format base groups ticks) =
+abbrev pub IsLogReport : List ℕ → FileReport → Type 0
+IsLogReport bytes report.Closed = IsSegment bytes ClosedSegment
+IsLogReport bytes report.Damaged = IsSegment bytes MalformedSegment
+IsLogReport bytes (report.Log format base groups ticks) =
     (listed : List Tick) × (segment : IsOpenSegment bytes base listed)
     × (format ≡ segment.format) × (groups ≡ length segment.groups) × (ticks ≡ length listed)
+IsLogReport bytes (report.Image format cells tick) = ⊥

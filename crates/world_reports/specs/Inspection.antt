@@ -14,47 +14,39 @@ use Rattle.world_folder.specs.History.{Act, Printed, IsPrinted}
 use Rattle.world_reports.specs.Looking.{IsSeen, length_or}
 use Rattle.world_reports.specs.Reports.{NamesFailed, with_finding}
 use Rattle.world_folder.specs.Texts.{recovered_text}
-use Rattle.world_reports.specs.Texts.{image_reported_text, log_reported_text, counted_text}
+use Rattle.world_reports.specs.Texts.{reported_text, counted_text}
 use Rattle.world_reports.specs.FileReports.{IsImageReport, IsLogReport}
 use Rattle.world_folder.specs.WorldFile.{name_of}
 use Rattle.world_reports.specs.declared.inspecting.FileLine.{FileLine}
-use Rattle.world_reports.specs.declared.inspecting.FileReport.{FileReport}
-use Rattle.world_reports.specs.declared.inspecting.FileReport.TheVariants.{Image, Log, Unreadable}
+use Rattle.world_reports.specs.declared.file_reports.FileReport.{FileReport}
 use Rattle.world_reports.specs.declared.looking.Seen.{Seen}
 use Rattle.world_folder.specs.declared.world_file.Named.{Named}
 use Rattle.world_folder.specs.declared.world_file.WorldFile.{WorldFile}
 use Rattle.world_folder.specs.declared.world_file.WorldFile.TheVariants.{ImageA, ImageB, LogA, LogB}
 
--- a file's report, and its length
-abbrev pub reported_line : (name reported : List ℕ) → (length : ℕ) → Option (List ℕ)
-reported_line name reported length =
-    Some (name ++ codes ": " ++ reported ++ codes ", " ++ counted_text length (codes "byte"))
-
 -- the text of the line on a file, which isn't stated if it has an error of the system
-abbrev pub reported_text : WorldFile → FileReport → (length : ℕ) → Option (List ℕ)
-reported_text file (Image reported) length =
-    reported_line (name_of file) (image_reported_text reported) length
-reported_text file (Log reported) length =
-    reported_line (name_of file) (log_reported_text reported) length
-reported_text file (Unreadable error) length = None
+abbrev pub line_text : WorldFile → Result FileReport Error → (length : ℕ) → Option (List ℕ)
+line_text file (Ok reported) length =
+    Some (name_of file ++ codes ": " ++ reported_text reported ++ codes ", "
+    ++ counted_text length (codes "byte"))
+line_text file (Err error) length = None
 
 abbrev pub file_line_text : FileLine → Option (List ℕ)
-file_line_text line = reported_text line.file line.reported line.length
+file_line_text line = line_text line.file line.reported line.length
 
 -- how the bytes of a file read, by its format
 abbrev pub IsFileReport : WorldFile → (bytes : List ℕ) → FileReport → Type 0
-IsFileReport ImageA bytes (Image reported) = IsImageReport bytes reported
-IsFileReport ImageB bytes (Image reported) = IsImageReport bytes reported
-IsFileReport LogA bytes (Log reported) = IsLogReport bytes reported
-IsFileReport LogB bytes (Log reported) = IsLogReport bytes reported
-IsFileReport file bytes reported = ⊥
+IsFileReport ImageA bytes reported = IsImageReport bytes reported
+IsFileReport ImageB bytes reported = IsImageReport bytes reported
+IsFileReport LogA bytes reported = IsLogReport bytes reported
+IsFileReport LogB bytes reported = IsLogReport bytes reported
 
 -- the line on a file that was read so: how its bytes read, or why it can't be read
 abbrev pub IsLineOf : WorldFile → Result (Vec ℕ Global) Error → Option ℕ → FileLine → Type 0
 IsLineOf file (Ok bytes) known line =
-    (line.file ≡ file) × IsFileReport file bytes.items line.reported
-    × (line.length ≡ length_or known bytes.items)
-IsLineOf file (Err error) known line = (line.file ≡ file) × (line.reported ≡ Unreadable error)
+    (line.file ≡ file) × (reported : FileReport) × (line.reported ≡ Ok reported)
+    × IsFileReport file bytes.items reported × (line.length ≡ length_or known bytes.items)
+IsLineOf file (Err error) known line = (line.file ≡ file) × (line.reported ≡ Err error)
 
 abbrev pub IsFileLine : Named (Result (Vec ℕ Global) Error) → Option ℕ → FileLine → Type 0
 IsFileLine named known line = IsLineOf named.file named.value known line

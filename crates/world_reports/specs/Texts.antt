@@ -4,10 +4,8 @@ use Rattle.std.specs.Prelude.{codes, decimal, Option, Some, None}
 use Rattle.disk_model.specs.declared.four_files.FourFiles.{FourFiles}
 use Rattle.file_format.specs.declared.slot.Slot.{Slot}
 use Rattle.action_log.specs.declared.format.TheConstants.{SEGMENT_TICKS}
-use Rattle.world_reports.specs.declared.file_reports.ImageReport.{ImageReport}
-use Rattle.world_reports.specs.declared.file_reports.ImageReport.TheVariants as image
-use Rattle.world_reports.specs.declared.file_reports.LogReport.{LogReport}
-use Rattle.world_reports.specs.declared.file_reports.LogReport.TheVariants as log
+use Rattle.world_reports.specs.declared.file_reports.FileReport.{FileReport}
+use Rattle.world_reports.specs.declared.file_reports.FileReport.TheVariants as report
 use Rattle.world_reports.specs.declared.figures.Figures.{Figures as FiguresValue}
 use Rattle.world_reports.specs.declared.served.PartReport.{PartReport}
 use Rattle.world_reports.specs.declared.served.PartReport.TheVariants as part
@@ -49,17 +47,13 @@ salvaged_text tick from = codes "salvaged " ++ world_text tick from
 
 -- ---- files
 
-abbrev pub image_reported_text : ImageReport → List ℕ
-image_reported_text image.Closed = codes "closed"
-image_reported_text image.Damaged = codes "damaged"
-image_reported_text (image.Open format cells tick) =
+abbrev pub reported_text : FileReport → List ℕ
+reported_text report.Closed = codes "closed"
+reported_text report.Damaged = codes "damaged"
+reported_text (report.Image format cells tick) =
     codes "open, format " ++ decimal (format_number format) ++ codes ", "
     ++ counted_text cells (codes "cell") ++ codes ", tick " ++ decimal tick
-
-abbrev pub log_reported_text : LogReport → List ℕ
-log_reported_text log.Closed = codes "closed"
-log_reported_text log.Damaged = codes "damaged"
-log_reported_text (log.Open format base groups ticks) =
+reported_text (report.Log format base groups ticks) =
     codes "open, format " ++ decimal (format_number format) ++ codes ", base " ++ decimal base
     ++ codes ", " ++ counted_text groups (codes "group") ++ codes ", "
     ++ counted_text ticks (codes "tick")

@@ -3,18 +3,16 @@ ghost use Rattle.std.specs.Prelude.{◌≡◌, IsTrue, IfOk, IfErr, Some, OnOk, 
 ghost use Rattle.world_folder.specs.Ending.{IsChecked, IsDone, IsFault};
 ghost use Rattle.world_reports.specs.StatusReport.{IsStatusReported, IsServerReported};
 ghost use Rattle.world_reports.specs.StatusReport.{AreFiguresReported, with_guard};
-ghost use Rattle.world_reports.specs.FileReports.{IsLogReport};
-ghost use Rattle.world_reports.specs.Figures.{AreFigures, current_segment, reported_segment};
+ghost use Rattle.world_reports.specs.Figures.{AreFigures, IsOpened, current_segment};
 ghost use Rattle.world_reports.specs.Texts.{figures_text, lengths_text, pair_text, segment_text};
 ghost use Rattle.world_reports.specs.Texts.{guard_text, total_of};
 
 use crate::counted::Counted;
-use crate::file_reports::{LogReport, report_log};
 use crate::health::{health_of, report_health};
 use crate::looking::look_for_world;
 use crate::recovering::{warn_of, warn_of_failed};
 use crate::served::{ServerReport, server_in};
-use action_log::SEGMENT_TICKS;
+use action_log::{SEGMENT_TICKS, judge_log};
 use disk_model::FourFiles;
 use recovery::{Recovered, Slot};
 use std::alloc::Global;
@@ -43,21 +41,23 @@ pub struct Figures {
 pub fn figures_of(found: &Recovered, files: &FourFiles<Vec<u8>>) -> Figures
     ensures { AreFigures files.now found.now result }
 {
-    let log_a = report_log(&files.log_a);
-    let log_b = report_log(&files.log_b);
     Figures {
         tick: found.tick,
         image: found.from,
         slot: found.slot,
-        segment: current_segment(log_a, log_b),
+        segment: current_segment(opened_segment(&files.log_a), opened_segment(&files.log_b)),
     }
 }
 
-// The open segment with the greater base, log.b if both have it, and how many ticks it has.
-fn current_segment(log_a: LogReport, log_b: LogReport) -> Option<(Slot, usize)>
-    ensures { result ≡ current_segment (reported_segment log_a) (reported_segment log_b) }
+// Of two segments the open one with the greater base, log.b if both have it, and how many ticks it
+// has.
+fn current_segment(
+    log_a: Option<(u64, usize)>,
+    log_b: Option<(u64, usize)>,
+) -> Option<(Slot, usize)>
+    ensures { result ≡ current_segment log_a log_b }
 {
-    match (opened_segment(log_a), opened_segment(log_b)) {
+    match (log_a, log_b) {
         (Some((first, ticks)), Some((second, _))) if second < first => Some((Slot::A, ticks)),
         (_, Some((_, ticks))) => Some((Slot::B, ticks)),
         (Some((_, ticks)), None) => Some((Slot::A, ticks)),
@@ -66,12 +66,12 @@ fn current_segment(log_a: LogReport, log_b: LogReport) -> Option<(Slot, usize)>
 }
 
 // The base of an open segment, and how many ticks it has.
-fn opened_segment(log: LogReport) -> Option<(u64, usize)>
-    ensures { result ≡ reported_segment log }
+fn opened_segment(bytes: &[u8]) -> Option<(u64, usize)>
+    ensures { IsOpened bytes.now result }
 {
-    match log {
-        LogReport::Open { base, ticks, .. } => Some((base, ticks)),
-        LogReport::Closed | LogReport::Damaged => None,
+    match judge_log(bytes) {
+        Ok(Some((log, counts))) => Some((log.base, counts.ticks)),
+        _ => None,
     }
 }
 

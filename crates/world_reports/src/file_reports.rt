@@ -2,36 +2,30 @@ ghost use Rattle.std.specs.Prelude.{◌≡◌, Err, IfOk, IfErr, Some};
 ghost use Rattle.image_files.specs.Image.{image_of};
 ghost use Rattle.image_files.specs.Reading.{IsOpenImage};
 ghost use Rattle.world_reports.specs.FileReports.{IsImageReport, IsLogReport, format_number};
-ghost use Rattle.world_reports.specs.Texts.{image_reported_text, log_reported_text};
+ghost use Rattle.world_reports.specs.Texts.{reported_text};
 
 use crate::counted::Counted;
-use action_log::{JudgedLog, count_groups, judge_log};
+use action_log::judge_log;
 use file_format::{Format, format_of};
 use image_files::{ImageState, read_image};
 use std::alloc::Global;
 use std::fmt;
 use world_actions::Refusal;
 
-/// The report on an image file.
+/// How a file of a world reads.
 #[derive(Clone, Copy, Debug, PartialEq, Eq)]
-pub enum ImageReport {
+pub enum FileReport {
     Closed,
     /// It is open, and of neither format.
     Damaged,
-    Open {
+    /// It is an open image.
+    Image {
         format: Format,
         cells: usize,
         tick: u64,
     },
-}
-
-/// The report on a log file.
-#[derive(Clone, Copy, Debug, PartialEq, Eq)]
-pub enum LogReport {
-    Closed,
-    /// It is open, and of neither format.
-    Damaged,
-    Open {
+    /// It is an open segment.
+    Log {
         format: Format,
         base: u64,
         groups: usize,
@@ -40,39 +34,36 @@ pub enum LogReport {
 }
 
 /// Reports on an image file. It takes memory as `read_image` does.
-pub fn report_image(alloc: Global, bytes: &[u8]) -> Result<ImageReport, Refusal>
+pub fn report_image(alloc: Global, bytes: &[u8]) -> Result<FileReport, Refusal>
     ensures reported { IfOk result (IsImageReport bytes.now) }
     ensures refused { IfErr result (λ refusal. refusal ≡ Refusal.NoMemory) }
     ensures memory { result ≡ Err Refusal.NoMemory → IsOpenImage (image_of bytes.now) }
 {
     match read_image(alloc, bytes) {
-        Ok(ImageState::Closed) => Ok(ImageReport::Closed),
-        Ok(ImageState::Open { tick, words }) => Ok(ImageReport::Open {
+        Ok(ImageState::Closed) => Ok(FileReport::Closed),
+        Ok(ImageState::Open { tick, words }) => Ok(FileReport::Image {
             format: format_of(bytes).unwrap(),
             cells: words.len(),
             tick,
         }),
-        Err(Refusal::BadImage) => Ok(ImageReport::Damaged),
+        Err(Refusal::BadImage) => Ok(FileReport::Damaged),
         Err(refusal) => Err(refusal),
     }
 }
 
 /// Reports on a log file. It takes no memory.
-pub fn report_log(bytes: &[u8]) -> LogReport
+pub fn report_log(bytes: &[u8]) -> FileReport
     ensures { IsLogReport bytes.now result }
 {
     match judge_log(bytes) {
-        Ok(JudgedLog::Closed) => LogReport::Closed,
-        Ok(JudgedLog::Open { base, count }) => {
-            let format = format_of(bytes).unwrap();
-            LogReport::Open {
-                format,
-                base,
-                groups: count_groups(bytes).unwrap(),
-                ticks: count,
-            }
-        }
-        Err(_) => LogReport::Damaged,
+        Ok(None) => FileReport::Closed,
+        Ok(Some((log, counts))) => FileReport::Log {
+            format: log.format,
+            base: log.base,
+            groups: counts.groups,
+            ticks: counts.ticks,
+        },
+        Err(_) => FileReport::Damaged,
     }
 }
 
@@ -86,14 +77,14 @@ fn number_of(format: Format) -> u8
     }
 }
 
-impl fmt::Display for ImageReport {
-    ghost output = { λ reported. Some (image_reported_text reported) };
+impl fmt::Display for FileReport {
+    ghost output = { λ reported. Some (reported_text reported) };
 
     fn fmt<W: fmt::Write>(&self, f: &mut fmt::Formatter<W>) -> fmt::Result {
         match self {
-            ImageReport::Closed => f.write_str("closed"),
-            ImageReport::Damaged => f.write_str("damaged"),
-            ImageReport::Open {
+            FileReport::Closed => f.write_str("closed"),
+            FileReport::Damaged => f.write_str("damaged"),
+            FileReport::Image {
                 format,
                 cells,
                 tick,
@@ -105,18 +96,7 @@ impl fmt::Display for ImageReport {
                 };
                 write!(f, "open, format {format}, {cells}, tick {tick}")
             }
-        }
-    }
-}
-
-impl fmt::Display for LogReport {
-    ghost output = { λ reported. Some (log_reported_text reported) };
-
-    fn fmt<W: fmt::Write>(&self, f: &mut fmt::Formatter<W>) -> fmt::Result {
-        match self {
-            LogReport::Closed => f.write_str("closed"),
-            LogReport::Damaged => f.write_str("damaged"),
-            LogReport::Open {
+            FileReport::Log {
                 format,
                 base,
                 groups,

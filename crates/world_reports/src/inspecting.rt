@@ -4,7 +4,7 @@ ghost use Rattle.world_reports.specs.Inspection.{IsFileLine, IsFileReport, IsIns
 ghost use Rattle.world_reports.specs.Inspection.{AreFilesReported, file_line_text, words_printed};
 
 use crate::counted::Counted;
-use crate::file_reports::{ImageReport, LogReport, report_image, report_log};
+use crate::file_reports::{FileReport, report_image, report_log};
 use crate::looking::{Seen, found_in, look_at_folder};
 use crate::recovering::{warn_of, warn_of_failed};
 use disk_model::FourFiles;
@@ -98,19 +98,11 @@ fn print_files<F: Folder>(alloc: Global, folder: &mut F, seen: &Seen) -> Result<
     Ok(())
 }
 
-// The report on a file.
-#[derive(Clone, Copy)]
-enum FileReport {
-    Image(ImageReport),
-    Log(LogReport),
-    Unreadable(io::Error),
-}
-
-// The line on a file: its name, how it reads, and how long it is.
+// The line on a file: its name, how it reads, if it can be read, and how long it is.
 #[derive(Clone, Copy)]
 struct FileLine {
     file: WorldFile,
-    reported: FileReport,
+    reported: io::Result<FileReport>,
     length: u64,
 }
 
@@ -127,14 +119,14 @@ fn file_line(
         Ok(bytes) => match reported_of(alloc, named.file, bytes) {
             Ok(reported) => Ok(FileLine {
                 file: named.file,
-                reported,
+                reported: Ok(reported),
                 length: length.unwrap_or(bytes.len() as u64),
             }),
             Err(refusal) => Err(Ending::Fault(refusal)),
         },
         Err(error) => Ok(FileLine {
             file: named.file,
-            reported: FileReport::Unreadable(*error),
+            reported: Err(*error),
             length: 0,
         }),
     }
@@ -144,8 +136,8 @@ fn reported_of(alloc: Global, file: WorldFile, bytes: &[u8]) -> Result<FileRepor
     ensures { IfOk result (IsFileReport file bytes.now) }
 {
     match file {
-        WorldFile::ImageA | WorldFile::ImageB => Ok(FileReport::Image(report_image(alloc, bytes)?)),
-        WorldFile::LogA | WorldFile::LogB => Ok(FileReport::Log(report_log(bytes))),
+        WorldFile::ImageA | WorldFile::ImageB => report_image(alloc, bytes),
+        WorldFile::LogA | WorldFile::LogB => Ok(report_log(bytes)),
     }
 }
 
@@ -159,9 +151,8 @@ impl fmt::Display for FileLine {
             noun: "byte",
         };
         match self.reported {
-            FileReport::Image(reported) => write!(f, "{name}: {reported}, {length}"),
-            FileReport::Log(reported) => write!(f, "{name}: {reported}, {length}"),
-            FileReport::Unreadable(error) => write!(f, "{name}: unreadable: {error}"),
+            Ok(reported) => write!(f, "{name}: {reported}, {length}"),
+            Err(error) => write!(f, "{name}: unreadable: {error}"),
         }
     }
 }

@@ -294,7 +294,7 @@ impl fmt::Display for LogLine {
     }
 }
 
-// What is taken of an image.
+// The part of an image that is taken.
 #[derive(Clone, Copy)]
 struct ImageTaken(ImagePart);
 
@@ -310,7 +310,7 @@ impl fmt::Display for ImageTaken {
     }
 }
 
-// What is taken of a log, up to a tick.
+// The part of a log that is taken, up to a tick.
 #[derive(Clone, Copy)]
 struct LogTaken(LogPart, u64);
 

@@ -73,7 +73,7 @@ fn locks_in<F: Folder>(folder: &mut F) -> io::Result<Locks>
     })
 }
 
-// What the locks say of the server.
+// Reports on the server by the locks.
 fn report_of_locks(locks: &Locks) -> ServerReport
     ensures { result ≡ server_reported locks.now }
 {
@@ -87,7 +87,7 @@ fn report_of_locks(locks: &Locks) -> ServerReport
     }
 }
 
-// What the folder's lock says of a server if that of image.a is free between the two answers.
+// Reports on a server by the folder's lock, if that of image.a is free between the two answers.
 fn report_without_files(before: LockState, after: LockState) -> ServerReport
     ensures { result ≡ folder_reported before after }
 {
@@ -97,7 +97,7 @@ fn report_without_files(before: LockState, after: LockState) -> ServerReport
     }
 }
 
-// What a lock says of the part of a server that takes it when it goes down.
+// Reports on the part of a server that takes this lock when it goes down.
 fn report_part(lock: LockState) -> PartReport
     ensures { result ≡ part_reported lock }
 {

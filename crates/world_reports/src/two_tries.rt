@@ -7,13 +7,13 @@ use std::alloc::Global;
 use std::io::{self, ErrorKind};
 use world_folder::{Folder, WorldFile, read_file};
 
-/// What came of reading a file, at one try or two.
+/// The result of reading a file, at one try or two.
 #[derive(Drop)]
 pub struct TwoTries {
     pub file: WorldFile,
     /// The error of the first try, if there was a second.
     pub failed: Option<io::Error>,
-    /// What came of the last try.
+    /// The result of the last try.
     pub value: io::Result<Vec<u8>>,
 }
 

@@ -39,6 +39,6 @@ pub trait Front<M: Method, D: Disk + Drop, W> {
         ensures noted { IsTrue known → noted self.new ≡ noted self.old }
         ensures fault { IfErr result IsFault };
 
-    /// What of the server is down so far, as `W` heard.
+    /// The parts of the server that are down so far, as `W` heard.
     fn losses(&self) -> Losses;
 }

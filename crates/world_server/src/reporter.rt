@@ -21,8 +21,8 @@ pub struct Report {
     pub counts: Counts,
     /// How many batches were answered by a tick each second.
     pub rate: u64,
-    /// In how many seconds no more tick can end, if play goes on as it did since the last look and
-    /// no image opens. Without a tick since then it isn't known.
+    /// The seconds until no more tick can end, if play goes on as it did since the last look and no
+    /// image opens. Without a tick since then it isn't known.
     pub seconds_left: Option<u64>,
 }
 

@@ -7,7 +7,7 @@ use std::sync::atomic::{AtomicBool, AtomicU64, Ordering};
 use std::time::{Clock, Duration, Instant};
 use world_folder::{Ending, ServerEnding};
 
-/// What of a server is down.
+/// The parts of a server that are down.
 #[derive(Clone, Copy, Debug, PartialEq, Eq)]
 pub struct Losses {
     pub log: bool,

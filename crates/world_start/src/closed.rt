@@ -3,7 +3,7 @@ ghost use Rattle.image_files.specs.Image.{Closed, image_of};
 ghost use Rattle.action_log.specs.Segment.{ClosedSegment, IsSegment};
 ghost use Rattle.world_start.specs.Fresh.{AreClosed};
 
-use action_log::{JudgedLog, judge_log, segments_read_once};
+use action_log::{judge_log, segments_read_once};
 use disk_model::FourFiles;
 use image_files::{ImageState, read_image};
 use std::alloc::Global;
@@ -32,5 +32,5 @@ pub fn is_closed_segment(bytes: &[u8]) -> bool
     ensures { IsTrue result ↔ IsSegment bytes.now ClosedSegment }
 {
     segments_read_once();
-    matches!(judge_log(bytes), Ok(JudgedLog::Closed))
+    matches!(judge_log(bytes), Ok(None))
 }

@@ -1,13 +1,16 @@
 //! Ticks that are replayed from the bytes of their segment, without a list of them.
-ghost use Rattle.std.specs.Prelude.{◌≡◌, ◌≤◌, List, ℕ, length, Some, Ok, Err, IsErr, IfOk, IfErr};
+ghost use Rattle.std.specs.Prelude.{◌≡◌, ◌≤◌, List, ℕ, false, length, Some, Ok, Err, IsErr, IfOk};
+ghost use Rattle.std.specs.Prelude.{IfErr};
 ghost use Rattle.world_actions.specs.declared.refusal.Refusal.TheVariants.{BadLog};
 ghost use Rattle.world_ticks.specs.After.{after_actions};
 ghost use Rattle.action_log.specs.declared.format.TheConstants.{SEGMENT_TICKS};
-ghost use Rattle.action_log.specs.Segment.{Tick};
-ghost use Rattle.action_log.specs.Reading.{tick_at, group_at, ticks_of};
-ghost use Rattle.action_log.specs.TickList.{actions_of};
+ghost use Rattle.action_log.specs.Segment.{Tick, joined, actions_of};
+ghost use Rattle.action_log.specs.HeldLog.{IsRefusedAt};
+ghost use Rattle.action_log.specs.Reading.{tick_at, group_at, groups_of, ticks_of};
 
+use super::extent::Extent;
 use super::ticks::{action_count, behind_gate, read_action, tick_count};
+use crate::format::FIRST_GROUP;
 use file_format::Format;
 use world_actions::Refusal;
 use world_ticks::{Cells, replay};
@@ -62,27 +65,36 @@ fn replay_group<'a, C: Cells>(
 }
 
 /// Replays the ticks of all groups, and returns how many they are. At most `most` ticks are
-/// allowed. It takes no memory.
+/// allowed. It takes no memory. It stops at a group that isn't whole, has too many ticks, or has a
+/// refused action, and returns how far the groups before it go.
 pub(super) fn replay_groups<C: Cells>(
     format: Format,
     bytes: &[u8],
     most: usize,
     c: &mut C,
-) -> Result<usize, Refusal>
+) -> Result<usize, Extent>
     requires { most ≤ SEGMENT_TICKS }
     ensures done { IfOk result (λ count. (ticks : List Tick)
         × (ticks_of format bytes.now ≡ Some ticks) × (length ticks ≡ count) × (count ≤ most)
         × (after_actions (C.words c.old) (actions_of ticks) ≡ Ok (C.words c.new))) }
-    ensures refused { IfErr result (λ refusal. (refusal ≡ BadLog)
-        × ((ticks : List Tick) → ticks_of format bytes.now ≡ Some ticks → length ticks ≤ most
-        → IsErr (after_actions (C.words c.old) (actions_of ticks)))) }
+    ensures stopped { IfErr result (λ extent. (groups : List (List Tick))
+        → groups_of format bytes.now ≡ Some groups → length (joined groups) ≤ most
+        → IsRefusedAt groups (C.words c.old) extent.groups_end extent.ticks) }
+    ensures gate { IfErr result (λ extent. extent.ended ≡ false) }
 {
     let mut ticks = 0;
     let mut rest = bytes;
     while let Some(group) = behind_gate(rest) {
-        let (more, next) = replay_group(format, group, c)?;
+        let before = Extent {
+            groups_end: FIRST_GROUP + (bytes.len() - rest.len()),
+            ticks,
+            ended: false,
+        };
+        let Ok((more, next)) = replay_group(format, group, c) else {
+            return Err(before);
+        };
         if more > most - ticks {
-            return Err(Refusal::BadLog);
+            return Err(before);
         }
         ticks += more;
         rest = next;

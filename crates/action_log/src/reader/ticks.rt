@@ -1,19 +1,18 @@
 #![tactic(auto, unfolding(crate::specs::Reading::number_at, crate::specs::Reading::two_at, crate::specs::Reading::fields_at, crate::specs::Reading::action_at))]
 
 ghost use Rattle.std.specs.Prelude.{◌≡◌, ◌≤◌, ◌<◌, ◌*◌, ℕ, [], ◌∷◌, List, length, Some, None};
-ghost use Rattle.std.specs.Prelude.{IfSome, IfNone, IfOk, IfErr, OnOk};
+ghost use Rattle.std.specs.Prelude.{◌++◌, IfSome, IfNone, IfOk, IfErr};
 ghost use Rattle.world_actions.specs.declared.action.Action.{Action};
 ghost use Rattle.file_format.specs.declared.format.Format.{Format};
 ghost use Rattle.world_ticks.specs.declared.tick.TheConstants.{TICK_ACTIONS};
 ghost use Rattle.action_log.specs.declared.format.TheConstants.{GROUP_TICKS, SEGMENT_TICKS};
-ghost use Rattle.action_log.specs.Segment.{EndsGroups, joined};
+ghost use Rattle.action_log.specs.Segment.{Tick, EndsGroups, joined, actions_of};
+ghost use Rattle.action_log.specs.LogState.{listed};
 ghost use Rattle.action_log.specs.Reading.{number_at, fields_at, action_at, several_at, tick_at};
 ghost use Rattle.action_log.specs.Reading.{group_at, groups_of, ticks_of, found_in, RefusesWhere};
-ghost use Rattle.action_log.specs.Reading.{HasWidth, AreAdded};
-ghost use Rattle.action_log.specs.TickList.{actions_of};
+ghost use Rattle.action_log.specs.Reading.{HasWidth};
 
 use crate::format::{ADD, CAP, GROUP_TICKS, SET, SWAP, TRANSFER, last_kind};
-use crate::tick_list::TickList;
 use file_format::{Format, OPEN_GATE, u16_at, u32_at, u64_at};
 use std::alloc::Global;
 use world_actions::{Action, Refusal};
@@ -193,12 +192,12 @@ fn count_tick(format: Format, bytes: &[u8]) -> Option<(usize, &[u8])>
     Some((count, rest))
 }
 
-/// The number of groups, and the numbers of ticks and actions in all of them.
-#[derive(Clone, Copy)]
-pub(super) struct Counts {
-    pub(super) groups: usize,
-    pub(super) ticks: usize,
-    pub(super) actions: usize,
+/// The number of groups of a segment, and the numbers of ticks and actions in all of them.
+#[derive(Clone, Copy, Debug, PartialEq, Eq)]
+pub struct Counts {
+    pub groups: usize,
+    pub ticks: usize,
+    pub actions: usize,
 }
 
 /// Counts the ticks and the actions of a group after its gate, and returns the bytes after it.
@@ -250,86 +249,64 @@ pub(super) fn count_all(format: Format, bytes: &[u8], most: usize) -> Option<Cou
     Some(counts)
 }
 
-// Adds the actions of a tick, and its end, and returns the bytes after it.
-fn read_tick<'a>(
-    format: Format,
-    bytes: &'a [u8],
-    actions: &mut Vec<Action>,
-    ends: &mut Vec<usize>,
-) -> Result<&'a [u8], Refusal>
-    ensures read { IfOk result (λ rest. (tick : List Action)
-        × (tick_at format bytes.now ≡ Some (tick, rest.now))
-        × AreAdded (tick ∷ []) actions.old.items ends.old.items actions.new.items ends.new.items) }
+// Reads a tick, and returns its actions, and the bytes after it.
+fn read_tick(alloc: Global, format: Format, bytes: &[u8]) -> Result<(Vec<Action>, &[u8]), Refusal>
+    ensures read { IfOk result (λ found.
+        tick_at format bytes.now ≡ Some (found.0.items, found.1.now)) }
     ensures refused { IfErr result (RefusesWhere (tick_at format bytes.now ≡ None)) }
 {
     let Some((count, mut rest)) = action_count(bytes) else {
         return Err(Refusal::BadLog);
     };
-    actions.reserve(count)?;
+    let mut tick = Vec::with_capacity(alloc, count)?;
     for _ in 0..count {
         let Some((action, next)) = read_action(format, rest) else {
             return Err(Refusal::BadLog);
         };
-        actions.push_reserved(action);
+        tick.push_reserved(action);
         rest = next;
     }
-    ends.push(actions.len())?;
-    Ok(rest)
+    Ok((tick, rest))
 }
 
 // Adds the ticks of a group after its gate, and returns the bytes after it.
 fn read_group<'a>(
+    alloc: Global,
     format: Format,
     bytes: &'a [u8],
-    actions: &mut Vec<Action>,
-    ends: &mut Vec<usize>,
+    ticks: &mut Vec<Vec<Action>>,
 ) -> Result<&'a [u8], Refusal>
-    ensures read { IfOk result (λ rest. (ticks : List (List Action))
-        × (group_at format bytes.now ≡ Some (ticks, rest.now))
-        × AreAdded ticks actions.old.items ends.old.items actions.new.items ends.new.items) }
+    ensures read { IfOk result (λ rest. (group : List Tick)
+        × (group_at format bytes.now ≡ Some (group, rest.now))
+        × (listed ticks.new.items ≡ listed ticks.old.items ++ group)) }
     ensures refused { IfErr result (RefusesWhere (group_at format bytes.now ≡ None)) }
 {
     let Some((count, mut rest)) = tick_count(bytes) else {
         return Err(Refusal::BadLog);
     };
     for _ in 0..count {
-        rest = read_tick(format, rest, actions, ends)?;
+        let (tick, next) = read_tick(alloc, format, rest)?;
+        ticks.push(tick)?;
+        rest = next;
     }
     Ok(rest)
 }
 
-// Adds the ticks of all groups.
-fn read_groups(
-    format: Format,
-    bytes: &[u8],
-    actions: &mut Vec<Action>,
-    ends: &mut Vec<usize>,
-) -> Result<(), Refusal>
-    ensures read { OnOk result
-        ((ticks : List (List Action)) × (ticks_of format bytes.now ≡ Some ticks)
-        × AreAdded ticks actions.old.items ends.old.items actions.new.items ends.new.items) }
-    ensures refused { IfErr result (RefusesWhere (ticks_of format bytes.now ≡ None)) }
-{
-    let mut rest = bytes;
-    while let Some(group) = behind_gate(rest) {
-        rest = read_group(format, group, actions, ends)?;
-    }
-    Ok(())
-}
-
-/// Returns the ticks of all groups. It takes memory once, for as many ticks and actions
-/// as were counted.
+/// Returns the ticks of all groups. It takes memory for as many ticks as were counted, and then
+/// for the actions of each.
 pub(super) fn read_ticks(
     alloc: Global,
     format: Format,
     bytes: &[u8],
     counts: Counts,
-) -> Result<TickList, Refusal>
-    ensures read { IfOk result (λ ticks. ticks_of format bytes.now ≡ Some ticks) }
+) -> Result<Vec<Vec<Action>>, Refusal>
+    ensures read { IfOk result (λ ticks. ticks_of format bytes.now ≡ Some (listed ticks.items)) }
     ensures refused { IfErr result (RefusesWhere (ticks_of format bytes.now ≡ None)) }
 {
-    let mut actions = Vec::with_capacity(alloc, counts.actions)?;
-    let mut ends = Vec::with_capacity(alloc, counts.ticks)?;
-    read_groups(format, bytes, &mut actions, &mut ends)?;
-    Ok(TickList::of_parts(actions, ends))
+    let mut ticks = Vec::with_capacity(alloc, counts.ticks)?;
+    let mut rest = bytes;
+    while let Some(group) = behind_gate(rest) {
+        rest = read_group(alloc, format, group, &mut ticks)?;
+    }
+    Ok(ticks)
 }

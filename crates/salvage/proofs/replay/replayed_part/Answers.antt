@@ -1,30 +1,55 @@
-use Rattle.std.proofs.Common.{◌≡◌, ◌⊎◌, subst}
+use Rattle.std.proofs.Common.{Option, ap, subst, sym, ◌∙◌, inr, refl}
 use Rattle.std.specs.Prelude.{IsOk}
-use Rattle.action_log.specs.LogState.{segment_in}
+use Rattle.world_ticks.specs.After.{after_actions}
+use Rattle.action_log.specs.declared.reader.HeldLog.{HeldLog}
 use Rattle.action_log.specs.Segment.{OpenSegment, IsSegment}
-use Rattle.recovery.specs.Recovery.{words_after}
+use Rattle.action_log.specs.HeldLog.{AreHeld, IsHeld, IsRefusedAt, segment_held, segment_of_held}
+use Rattle.action_log.specs.Segment.{actions_of}
 use Rattle.salvage.specs.Parts.{kept_log}
 use Rattle.salvage.specs.Replay.{IsRefused}
-use Rattle.salvage.proofs.Replaying.{replayed_by, stays_elsewhere, kept_replayed}
+use Rattle.salvage.proofs.Replaying.{accepted, stays_elsewhere, kept_open, kept_replayed}
 use Rattle.salvage.proofs.replay.replayed_part.Goals as goal
 
-pub returns-then-base-world-clause-part : goal.returns-then-base-world-clause-part
-returns-then-base-world-clause-part c =
-    let o = c.in-Ok-Open in
-    let reads : IsSegment (kept_log c.args.formed c.args.bytes.now) (OpenSegment o.base o.ticks) =
-    subst (λ l. IsSegment l (OpenSegment o.base o.ticks)) c.kept-kept.ensures (subst (λ s. IsSegment c.kept-kept.result.now (segment_in s)) o.field-0-is o.ensures.reads) in
-    stays_elsewhere c.args.world.tick c.args.world.words.items c.args.bytes.now c.args.formed o.base o.ticks reads c.if-base-world.true
+pub returns-then-log-world-clause-part : goal.returns-then-log-world-clause-part
+returns-then-log-world-clause-part c =
+    let log = c.in-Ok-Some.log in
+    let held : AreHeld (kept_log c.args.formed c.args.bytes.now) log =
+    subst (λ l. AreHeld l log) c.kept.ensures (subst (IsHeld c.kept.result.now) c.in-Ok-Some.field-0-is c.in-Ok-Some.ensures.reads.1) in
+    stays_elsewhere c.args.world.tick c.args.world.words.items c.args.bytes.now c.args.formed log held c.if-log-world.true
 
-pub returns-else-base-world-clause-part : goal.returns-else-base-world-clause-part
-returns-else-base-world-clause-part c =
-    let o = c.in-Ok-Open in
-    let part = c.accepted_part.result in
+pub returns-in-Ok-clause-part : goal.returns-in-Ok-clause-part
+returns-in-Ok-clause-part c =
+    let log = c.in-Ok-Some.log in
+    let kept = kept_log c.args.formed c.args.bytes.now in
+    let reads : IsSegment kept (segment_of_held log) =
+    subst (λ l. IsSegment l (segment_of_held log)) c.kept.ensures
+    (subst (λ (held : Option HeldLog). IsSegment c.kept.result.now (segment_held held)) c.in-Ok-Some.field-0-is c.in-Ok-Some.ensures.reads.0) in
+    let done = c.in-Ok.ensures.done in
+    let here : IsSegment kept (OpenSegment c.args.world.tick done.0) = subst (λ base. IsSegment kept (OpenSegment base done.0)) c.if-log-world.false (subst (IsSegment kept) done.1 reads) in
+    accepted c.args.world.tick c.args.world.words.items c.args.bytes.now c.args.formed done.0 here
+    (subst (λ r. IsOk r) (sym (ap (λ words. after_actions words (actions_of done.0)) (sym c.new.ensures) ∙ done.3)) refl)
+
+pub returns-clause-part : goal.returns-clause-part
+returns-clause-part c =
+    let log = c.in-Ok-Some.log in
+    let kept = kept_log c.args.formed c.args.bytes.now in
     let words = c.args.world.words.items in
-    let reads : IsSegment (kept_log c.args.formed c.args.bytes.now) (OpenSegment o.base o.ticks) =
-    subst (λ l. IsSegment l (OpenSegment o.base o.ticks)) c.kept-kept.ensures (subst (λ s. IsSegment c.kept-kept.result.now (segment_in s)) o.field-0-is o.ensures.reads) in
-    replayed_by c.args.world.tick words c.args.bytes.now c.args.formed part o.base o.ticks c.if-base-world.false reads
-    (subst (λ l. ((part ≡ c.args.formed) × IsOk (words_after words o.ticks)) ⊎ IsRefused o.base words l part) c.kept-kept.ensures c.accepted_part.ensures)
+    let held : AreHeld kept log = subst (λ l. AreHeld l log) c.kept.ensures (subst (IsHeld c.kept.result.now) c.in-Ok-Some.field-0-is c.in-Ok-Some.ensures.reads.1) in
+    let reads : IsSegment kept (segment_of_held log) =
+    subst (λ l. IsSegment l (segment_of_held log)) c.kept.ensures
+    (subst (λ (held : Option HeldLog). IsSegment c.kept.result.now (segment_held held)) c.in-Ok-Some.field-0-is c.in-Ok-Some.ensures.reads.0) in
+    let opened = kept_open c.args.bytes.now c.args.formed log c.requires.kept reads in
+    let leading = c.in-Err.leading in
+    let refused : IsRefused log.base words kept c.part_before.result = record {
+      list = opened.0;
+      segment = opened.1;
+      at = leading.groups_end;
+      ticks = leading.ticks;
+      refused = subst (λ w. IsRefusedAt opened.1.groups w leading.groups_end leading.ticks) c.new.ensures (c.in-Err.ensures.stopped kept log.base opened.0 opened.1 held);
+      part_is = c.part_before.ensures;
+    } in
+    inr (subst (λ base. IsRefused base words kept c.part_before.result) c.if-log-world.false refused)
 
-pub returns-else-base-world-clause-kept : goal.returns-else-base-world-clause-kept
-returns-else-base-world-clause-kept c =
-    kept_replayed c.args.world.tick c.args.world.words.items c.args.bytes.now c.args.formed c.accepted_part.result c.requires.kept (returns-else-base-world-clause-part c)
+pub returns-clause-kept : goal.returns-clause-kept
+returns-clause-kept c =
+    kept_replayed c.args.world.tick c.args.world.words.items c.args.bytes.now c.args.formed c.part_before.result c.requires.kept (returns-clause-part c)

@@ -10,27 +10,27 @@ returns-in_err-reached-clause-memory c =
     let ia = c.args.images.a.now in
     let ib = c.args.images.b.now in
     let n = recovery_of_answer c.args.newest in
-    let part = c.in_ok-part.part in
+    let part = c.replayed_part-part.result in
     let refusal = c.in_err-reached.field-0.0 in
     let none : refusal ≡ NoMemory = elim c.in_err-reached.ensures.refused [
       | inl none ↦ none
-      | inr e ↦ absurd (first_not_refused ia ib c.args.first.bytes.now n c.args.first.part part c.requires.newest c.requires.first c.in_ok-part.ensures.part refusal
+      | inr e ↦ absurd (first_not_refused ia ib c.args.first.bytes.now n c.args.first.part part c.requires.newest c.requires.first c.replayed_part-part.ensures.part refusal
           (subst (λ l. Recovers ia ib l [] (Err refusal)) c.kept.ensures e))
     ] in
-    if_err c.from_residual-in_err-reached.result refusal (λ e. e ≡ NoMemory) c.from_residual-in_err-reached.ensures.1 none
+    if_err c.from_residual.result refusal (λ e. e ≡ NoMemory) c.from_residual.ensures.1 none
 
 pub returns-clause-replayed : goal.returns-clause-replayed
 returns-clause-replayed c =
     let ia = c.args.images.a.now in
     let ib = c.args.images.b.now in
     let n = recovery_of_answer c.args.newest in
-    let part = c.in_ok-part.part in
+    let part = c.replayed_part-part.result in
     let reached = recovery_of_answer c.in_ok-reached.reached in
     record {
-      first_is = c.in_ok-part.ensures.part;
+      first_is = c.replayed_part-part.ensures.part;
       reached = reached.tick;
       reached_words = reached.words;
-      reaches = first_reaches ia ib c.args.first.bytes.now n c.args.first.part part c.requires.newest c.requires.first c.in_ok-part.ensures.part reached
+      reaches = first_reaches ia ib c.args.first.bytes.now n c.args.first.part part c.requires.newest c.requires.first c.replayed_part-part.ensures.part reached
           (subst (λ l. Recovers ia ib l [] (Ok reached)) c.kept.ensures c.in_ok-reached.ensures.recovered);
-      second_is = c.in_ok-next.ensures.part;
+      second_is = c.replayed_part-next.ensures.part;
     }

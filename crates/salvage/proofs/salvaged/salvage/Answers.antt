@@ -24,8 +24,8 @@ returns-in_err-found-clause-refused c =
     let pa = c.in_ok-log_part_a.log_part_a in
     let pb = c.in_ok-log_part_a.log_part_b in
     let refusal = c.in_err-found.field-0.0 in
-    let x = taken_answers ia ib la lb c.in_ok-formed_part.field-0 c.in_ok-formed_part-2.field-0 pa pb
-    c.in_ok-formed_part.ensures.kept c.in_ok-formed_part-2.ensures.kept c.in_ok-log_part_a.ensures.replayed in
+    let x = taken_answers ia ib la lb c.formed_part.result c.formed_part-2.result pa pb
+    c.formed_part.ensures.kept c.formed_part-2.ensures.kept c.in_ok-log_part_a.ensures.replayed in
     let none : refusal ≡ NoMemory = elim c.in_err-found.ensures.refused [
       | inl none ↦ none
       | inr e ↦ absurd (not_refused ia ib (kept_log pa la) (kept_log pb lb) x.newest _ _ x.kept_a.reads x.kept_b.reads x.answers refusal
@@ -42,8 +42,8 @@ returns-clause-accepted c = λ r e.
     let ib = c.args.image_b.now in
     let la = c.args.log_a.now in
     let lb = c.args.log_b.now in
-    let fa = c.in_ok-formed_part.field-0 in
-    let fb = c.in_ok-formed_part-2.field-0 in
+    let fa = c.formed_part.result in
+    let fb = c.formed_part-2.result in
     let pa = c.in_ok-log_part_a.log_part_a in
     let pb = c.in_ok-log_part_a.log_part_b in
     let found = recovery_of_answer c.in_ok-found.found in
@@ -51,7 +51,7 @@ returns-clause-accepted c = λ r e.
     subst (λ i. AreReplayedInOrder i (kept_image ipb ib) la lb fa fb pa pb) c.kept.ensures
     (subst (λ i. AreReplayedInOrder c.kept.result.now i la lb fa fb pa pb) c.kept-2.ensures c.in_ok-log_part_a.ensures.replayed) in
     let w = taken_whole ia ib la lb ipa ipb fa fb pa pb c.in_ok-image_part_a.ensures.part c.in_ok-image_part_b.ensures.part
-    c.in_ok-formed_part.ensures.part c.in_ok-formed_part-2.ensures.part c.in_ok-formed_part.ensures.kept order r e in (
+    c.formed_part.ensures.part c.formed_part-2.ensures.part c.formed_part.ensures.kept order r e in (
       one_answer ia ib la lb found r
           (recovers_on (Ok found) (c.kept.ensures ∙ w.image_a_is) (c.kept-2.ensures ∙ w.image_b_is)
           (c.kept-kept_a.ensures ∙ w.log_a_is) (c.kept-kept_b.ensures ∙ w.log_b_is) c.in_ok-found.ensures.recovered) e,

@@ -1,10 +1,10 @@
 use Rattle.std.proofs.Common.{◌++◌, ◌∷◌, [], refl, ap, arith, length, length-append}
 use mir.Facts.{Fits-lt-pow}
 use Rattle.action_log.specs.Segment.{joined}
-use Rattle.action_log.specs.TickList.{actions_of}
+use Rattle.action_log.specs.Segment.{actions_of}
 use Rattle.action_log.proofs.GroupLemmas.{joined_with}
 use Rattle.action_log.proofs.GroupReadingLemmas.{read_to_start, read_to_next, read_to_bad, read_to_end, read_to_many}
-use Rattle.action_log.proofs.TickListLemmas.{length-actions_of-append}
+use Rattle.action_log.proofs.GroupReadingLemmas.{length-actions_of-append}
 use Rattle.action_log.proofs.reader.ticks.count_all.Goals as goal
 
 pub loop-group-init : goal.loop-group-init

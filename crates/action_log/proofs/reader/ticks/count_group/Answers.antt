@@ -1,6 +1,6 @@
 use Rattle.std.proofs.Common.{◌++◌, ◌∷◌, [], refl, ◌∙◌, arith}
 use Rattle.action_log.proofs.ValueReadingLemmas.{read_start, read_next, read_none, read_all}
-use Rattle.action_log.proofs.TickListLemmas.{length-actions_of-with}
+use Rattle.action_log.proofs.GroupReadingLemmas.{length-actions_of-with}
 use Rattle.action_log.proofs.reader.ticks.count_group.Goals as goal
 
 pub loop-init : goal.loop-init
