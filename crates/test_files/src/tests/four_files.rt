@@ -40,23 +40,18 @@ fn arm(disks: &mut FourFiles<Fused<ModelFile>>, place: u32, call: u64)
     }
 }
 
-// Reads all files, and returns the code of the refusal, or 0 if there is none.
-fn refused(alloc: Global, disks: &mut FourFiles<Fused<ModelFile>>) -> u8 {
-    match disks.read_all(alloc) {
-        Ok(_) => 0,
-        Err(refusal) => refusal.code(),
-    }
-}
-
-// Lets this call of one of the disks fail. Returns the code of the refusal, and how many files a
-// second reading gives as they were made.
-fn fails_once(alloc: Global, place: u32, call: u64) -> Result<(u8, u32), Refusal>
+// Lets this call of one of the disks fail, and reads the files twice.
+fn fails_once(
+    alloc: Global,
+    place: u32,
+    call: u64,
+) -> Result<(Result<u32, Refusal>, Result<u32, Refusal>), Refusal>
     requires { 1 ≤ call }
 {
     let mut disks = four_disks(alloc)?;
     arm(&mut disks, place, call);
-    let code = refused(alloc, &mut disks);
-    Ok((code, reads(alloc, &mut disks)?))
+    let first = reads(alloc, &mut disks);
+    Ok((first, reads(alloc, &mut disks)))
 }
 
 #[test]
@@ -64,7 +59,8 @@ fn each_file_may_fail(rt: HostRuntime) -> Result<(), Fail> {
     for call in 1..=2 {
         for place in 0..4 {
             let answers = fails_once(rt.alloc(), place, call)?;
-            assert_eq!(rt; answers, (18, 4), "file {place}, call {call}");
+            let want = (Err(Refusal::Device), Ok(4));
+            assert_eq!(rt; answers, want, "file {place}, call {call}");
         }
     }
     Ok(())

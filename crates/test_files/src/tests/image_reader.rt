@@ -15,26 +15,26 @@ const SMALL: [u8; 8] = [5, 1, 0, 0, 0, 0, 0, 0];
 // LIMIT + 1 as a word, TICK_MAX as a tick.
 const MUCH: [u8; 8] = [0x00, 0x00, 0x64, 0xa7, 0xb3, 0xb6, 0xe0, 0x0d];
 
-// Codes for the outcomes that are no refusal.
-const CLOSED: u8 = 100;
+// An image that isn't refused: closed, open with the tick and the words that it should have, or
+// open with others.
+#[derive(Clone, Copy, Debug, PartialEq, Eq)]
+enum Found {
+    Closed,
+    AsWanted,
+    Other,
+}
 
-const AS_WANTED: u8 = 101;
-
-const OTHER: u8 = 102;
-
-// The outcome of reading an image: closed, open with this tick and these words, or open with
-// others. If it is refused, the outcome is the code of the refusal.
-fn outcome(alloc: Global, bytes: &[u8], want_tick: u64, want: &[u64]) -> u8 {
-    match read_image(alloc, bytes) {
-        Ok(ImageState::Closed) => CLOSED,
-        Ok(ImageState::Open { tick, words }) => {
+// The outcome of reading an image that should have this tick and these words.
+fn outcome(alloc: Global, bytes: &[u8], want_tick: u64, want: &[u64]) -> Result<Found, Refusal> {
+    match read_image(alloc, bytes)? {
+        ImageState::Closed => Ok(Found::Closed),
+        ImageState::Open { tick, words } => {
             if tick == want_tick && words.as_slice() == want {
-                AS_WANTED
+                Ok(Found::AsWanted)
             } else {
-                OTHER
+                Ok(Found::Other)
             }
         }
-        Err(refusal) => refusal.code(),
     }
 }
 
@@ -42,9 +42,9 @@ fn outcome(alloc: Global, bytes: &[u8], want_tick: u64, want: &[u64]) -> u8 {
 fn assert_cut(rt: &impl Abort, alloc: Global, image: &[u8; 33]) {
     for length in 0..=33 {
         let want = match length {
-            0..=16 => CLOSED,
-            17..=32 => 14,
-            _ => AS_WANTED,
+            0..=16 => Ok(Found::Closed),
+            17..=32 => Err(Refusal::BadImage),
+            _ => Ok(Found::AsWanted),
         };
         let read = outcome(alloc, &image[..length], 3, &[5, 7]);
         assert_eq!(rt; read, want, "{length} bytes, mark {}", image[8]);
@@ -64,7 +64,8 @@ fn reads_image_of_two_words(rt: HostRuntime) {
     }
     for mark in [0x01, 0x10, 0x1f, 0x21, 0x30, 0xff] {
         image[8] = mark;
-        assert_eq!(rt; outcome(alloc, &image, 3, &[5, 7]), 14, "mark {mark}");
+        let read = outcome(alloc, &image, 3, &[5, 7]);
+        assert_eq!(rt; read, Err(Refusal::BadImage), "mark {mark}");
     }
 }
 
@@ -84,34 +85,34 @@ fn outcome_of_one(
     tick: &[u8],
     word: &[u8],
     (want_tick, want_word): (u64, u64),
-) -> Result<u8, Refusal> {
+) -> Result<Found, Refusal> {
     let file = file(alloc, cells, tick, word)?;
-    Ok(outcome(alloc, &file, want_tick, &[want_word]))
+    outcome(alloc, &file, want_tick, &[want_word])
 }
 
 #[test]
-fn judges_header_and_words(rt: HostRuntime) -> Result<(), Fail> {
+fn judges_header_and_words(rt: HostRuntime) {
+    let (as_wanted, bad) = (Ok(Found::AsWanted), Err(Refusal::BadImage));
     let above_most_cells = [1, 0, 1, 0, 0, 0, 0, 0];
     let one_in_second = [1, 0, 0, 0, 0, 0, 0, 0x20];
     let none_in_second = [0, 0, 0, 0, 0, 0, 0, 0x20];
     let above_most_in_second = [1, 0, 0x10, 0, 0, 0, 0, 0x20];
     let above_last_tick = [0x01, 0x00, 0x64, 0xa7, 0xb3, 0xb6, 0xe0, 0x0d];
     for (cells, tick, word, want, open) in [
-        (&ONE, &NOTHING, &SMALL, AS_WANTED, (0, 261)),
-        (&ONE, &MUCH, &NOTHING, AS_WANTED, (TICK_MAX, 0)),
-        (&ONE, &NOTHING, &MUCH, 14, (0, 0)),
-        (&ONE, &above_last_tick, &NOTHING, 14, (0, 0)),
-        (&NOTHING, &ONE, &ONE, 14, (0, 0)),
-        (&above_most_cells, &ONE, &ONE, 14, (0, 0)),
-        (&one_in_second, &NOTHING, &SMALL, AS_WANTED, (0, 261)),
-        (&none_in_second, &ONE, &ONE, 14, (0, 0)),
-        (&above_most_in_second, &ONE, &ONE, 14, (0, 0)),
-        (&[0xff; 8], &ONE, &ONE, 14, (0, 0)),
+        (&ONE, &NOTHING, &SMALL, as_wanted, (0, 261)),
+        (&ONE, &MUCH, &NOTHING, as_wanted, (TICK_MAX, 0)),
+        (&ONE, &NOTHING, &MUCH, bad, (0, 0)),
+        (&ONE, &above_last_tick, &NOTHING, bad, (0, 0)),
+        (&NOTHING, &ONE, &ONE, bad, (0, 0)),
+        (&above_most_cells, &ONE, &ONE, bad, (0, 0)),
+        (&one_in_second, &NOTHING, &SMALL, as_wanted, (0, 261)),
+        (&none_in_second, &ONE, &ONE, bad, (0, 0)),
+        (&above_most_in_second, &ONE, &ONE, bad, (0, 0)),
+        (&[0xff; 8], &ONE, &ONE, bad, (0, 0)),
     ] {
-        let read = outcome_of_one(rt.alloc(), cells, tick, word, open)?;
+        let read = outcome_of_one(rt.alloc(), cells, tick, word, open);
         assert_eq!(rt; read, want, "{cells:?} {tick:?} {word:?}");
     }
-    Ok(())
 }
 
 #[test]
@@ -120,7 +121,7 @@ fn other_gates_are_closed(rt: HostRuntime) -> Result<(), Fail> {
     for gate in [0, 2, 0xff] {
         bytes.as_mut_slice().fill(gate);
         let read = outcome(rt.alloc(), &bytes, 0, &[]);
-        assert_eq!(rt; (read, is_shut(&bytes)), (CLOSED, true));
+        assert_eq!(rt; (read, is_shut(&bytes)), (Ok(Found::Closed), true));
     }
     assert!(rt; !is_shut(&[]) && !is_shut(&[1]));
     Ok(())
@@ -156,12 +157,6 @@ fn reported(alloc: Global, header: &[u8], cells: u32) -> Result<(u64, usize, boo
     }
 }
 
-// The code of the refusal of an image of so many words.
-fn refused(alloc: Global, header: &[u8], cells: u32) -> Result<u8, Refusal> {
-    let image = numbered(alloc, header, cells)?;
-    Ok(outcome(alloc, &image, 0, &[]))
-}
-
 #[test]
 fn reads_largest_image_of_each_format(rt: HostRuntime) -> Result<(), Fail> {
     for (header, larger, cells) in [
@@ -178,8 +173,8 @@ fn reads_largest_image_of_each_format(rt: HostRuntime) -> Result<(), Fail> {
     ] {
         let read = reported(rt.alloc(), &header, cells)?;
         assert_eq!(rt; read, (TICK_MAX, cells as usize, true));
-        let code = refused(rt.alloc(), &larger, cells.saturating_add(1))?;
-        assert_eq!(rt; code, 14, "{cells} cells and one");
+        let read = reported(rt.alloc(), &larger, cells.saturating_add(1));
+        assert_eq!(rt; read, Err(Refusal::BadImage), "{cells} cells and one");
     }
     Ok(())
 }

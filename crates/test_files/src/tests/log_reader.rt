@@ -1,5 +1,5 @@
 use super::segments::push_groups;
-use action_log::{LogState, TickList, count_groups, read_log};
+use action_log::{LogState, judge_log, read_log};
 use std::alloc::Global;
 use std::process::Abort;
 use std::test::Fail;
@@ -10,24 +10,23 @@ const ONE_TICK: [u8; 28] = [
     1, 0, 0, 0, 0, 0, 0, 0, 0, 1, 1, 0, 1, 0, 1, 0, 0, 0, 0, 5, 0, 0, 0, 0, 0, 0, 0, 0,
 ];
 
-// The outcome of reading a segment: 200 if it is closed, the code of a refusal, else the
-// number of ticks.
-fn outcome(alloc: Global, bytes: &[u8]) -> usize {
-    match read_log(alloc, bytes) {
-        Ok(LogState::Closed) => 200,
-        Ok(LogState::Open { ticks, .. }) => ticks.len(),
-        Err(refusal) => refusal.code() as usize,
+// The outcome of reading a segment: how many ticks it has, or none if it is closed.
+fn outcome(alloc: Global, bytes: &[u8]) -> Result<Option<usize>, Refusal> {
+    match read_log(alloc, bytes)? {
+        LogState::Closed => Ok(None),
+        LogState::Open { ticks, .. } => Ok(Some(ticks.len())),
     }
 }
 
 // True if these are the actions of each tick.
-fn are_ticks(ticks: &TickList, want: &[&[Action]]) -> bool {
+fn are_ticks(ticks: &[Vec<Action>], want: &[&[Action]]) -> bool {
     for i in 0..want.len() {
-        if ticks.get(i) != Some(want[i]) {
-            return false;
+        match ticks.get(i) {
+            Some(tick) if tick.as_slice() == want[i] => {}
+            _ => return false,
         }
     }
-    ticks.len() == want.len() && ticks.get(want.len()).is_none()
+    ticks.len() == want.len()
 }
 
 // True if a segment is open, with this base and these ticks' actions.
@@ -42,9 +41,9 @@ fn reads(alloc: Global, bytes: &[u8], want_base: u64, want: &[&[Action]]) -> boo
 fn assert_cut(rt: &impl Abort, alloc: Global, bytes: &[u8; 28]) {
     for k in 0..29 {
         let want = match k {
-            0..=9 => 200,
-            10..=26 => 15,
-            _ => 1,
+            0..=9 => Ok(None),
+            10..=26 => Err(Refusal::BadLog),
+            _ => Ok(Some(1)),
         };
         assert_eq!(rt;
             outcome(alloc, &bytes[..k]),
@@ -67,7 +66,8 @@ fn reads_one_tick_cut_anywhere(rt: HostRuntime) {
     }
     for mark in [0x10, 0x1f, 0x2e, 0x30, 0xff] {
         bytes[8] = mark;
-        assert_eq!(rt; outcome(alloc, &bytes), 15, "mark {mark}");
+        let read = outcome(alloc, &bytes);
+        assert_eq!(rt; read, Err(Refusal::BadLog), "mark {mark}");
     }
 }
 
@@ -108,7 +108,7 @@ fn reads_each_action_of_the_second_format(rt: HostRuntime) {
     let set = Action::Set { cell: 3, value: 4 };
     assert!(rt; reads(rt.alloc(), &bytes, 7, &[&[swap, cap, set]]));
     bytes[8] = 0;
-    assert_eq!(rt; outcome(rt.alloc(), &bytes), 15);
+    assert_eq!(rt; outcome(rt.alloc(), &bytes), Err(Refusal::BadLog));
 }
 
 // An open segment: a group of 32 ticks without an action, a group of one more, a closed gate,
@@ -123,7 +123,11 @@ fn two_groups() -> [u8; 87] {
 }
 
 fn assert_groups(rt: &impl Abort, bytes: &[u8], want: Option<usize>) {
-    assert_eq!(rt; count_groups(bytes), want, "{} bytes", bytes.len());
+    let groups = match judge_log(bytes) {
+        Ok(Some((_, counts))) => Some(counts.groups),
+        _ => None,
+    };
+    assert_eq!(rt; groups, want, "{} bytes", bytes.len());
 }
 
 // Asserts the groups of the segment, without and with the bytes after the closed gate.
@@ -160,18 +164,19 @@ fn joined(base: &[u8; 9], group: &[u8; 5]) -> [u8; 14] {
 #[test]
 fn refuses_what_is_out_of_bounds(rt: HostRuntime) {
     let last = [1, 0, 0, 0x64, 0xa7, 0xb3, 0xb6, 0xe0, 0x0d];
+    let bad = Err(Refusal::BadLog);
     for (base, group, want) in [
-        ([1, 0, 0, 0, 0, 0, 0, 0, 0], [1, 0, 0, 0, 0], 15), // no tick
-        ([1, 0, 0, 0, 0, 0, 0, 0, 0], [1, 1, 0, 0, 0], 1),
-        ([1, 0, 0, 0, 0, 0, 0, 0, 0], [1, 1, 0, 1, 0], 15), // cut off in a tick
-        (last, [0, 1, 0, 0, 0], 0), // base 10^18 and no tick
-        (last, [1, 1, 0, 0, 0], 15), // one more
+        ([1, 0, 0, 0, 0, 0, 0, 0, 0], [1, 0, 0, 0, 0], bad), // no tick
+        ([1, 0, 0, 0, 0, 0, 0, 0, 0], [1, 1, 0, 0, 0], Ok(Some(1))),
+        ([1, 0, 0, 0, 0, 0, 0, 0, 0], [1, 1, 0, 1, 0], bad), // cut off in a tick
+        (last, [0, 1, 0, 0, 0], Ok(Some(0))), // base 10^18 and no tick
+        (last, [1, 1, 0, 0, 0], bad), // one more
         (
             [1, 1, 0, 0x64, 0xa7, 0xb3, 0xb6, 0xe0, 0x0d],
             [0, 0, 0, 0, 0],
-            15,
+            bad,
         ), // base 10^18 + 1
-        ([2, 0, 0, 0, 0, 0, 0, 0, 0], [1, 0, 0, 0, 0], 200), // a gate that isn't open
+        ([2, 0, 0, 0, 0, 0, 0, 0, 0], [1, 0, 0, 0, 0], Ok(None)), // a gate that isn't open
     ] {
         let read = outcome(rt.alloc(), &joined(&base, &group));
         assert_eq!(rt; read, want, "{group:?} behind {base:?}");
@@ -197,9 +202,9 @@ fn tick_of(alloc: Global, more: u8) -> Result<Vec<u8>, Refusal> {
 }
 
 // The outcome of such a segment.
-fn outcome_of_tick(alloc: Global, more: u8) -> Result<usize, Refusal> {
+fn outcome_of_tick(alloc: Global, more: u8) -> Result<Option<usize>, Refusal> {
     let bytes = tick_of(alloc, more)?;
-    Ok(outcome(alloc, &bytes))
+    outcome(alloc, &bytes)
 }
 
 // A segment with this mark, of one action of this kind. The action has as many bytes as
@@ -212,27 +217,27 @@ fn action_of(mark: u8, kind: u8) -> [u8; 31] {
 }
 
 #[test]
-fn refuses_counts_of_ticks_and_actions(rt: HostRuntime) -> Result<(), Fail> {
-    for (ticks, want) in [(32, 32), (33, 15)] {
+fn refuses_counts_of_ticks_and_actions(rt: HostRuntime) {
+    for (ticks, want) in [(32, Ok(Some(32))), (33, Err(Refusal::BadLog))] {
         assert_eq!(rt;
             outcome(rt.alloc(), &group_of(ticks)),
             want,
             "{ticks} ticks"
         );
     }
-    for (more, want) in [(0, 1), (1, 15)] {
-        let read = outcome_of_tick(rt.alloc(), more)?;
+    for (more, want) in [(0, Ok(Some(1))), (1, Err(Refusal::BadLog))] {
+        let read = outcome_of_tick(rt.alloc(), more);
         assert_eq!(rt; read, want, "256 actions and {more}");
     }
-    Ok(())
 }
 
 #[test]
 fn refuses_kinds(rt: HostRuntime) {
+    let (one, bad) = (Ok(Some(1)), Err(Refusal::BadLog));
     // kinds 0 to 6 in each format
     for (mark, kinds) in [
-        (0x00, [15, 1, 1, 1, 15, 15, 15]),
-        (0x20, [15, 1, 1, 1, 1, 1, 15]),
+        (0x00, [bad, one, one, one, bad, bad, bad]),
+        (0x20, [bad, one, one, one, one, one, bad]),
     ] {
         for kind in 0..7 {
             let read = outcome(rt.alloc(), &action_of(mark, kind));
@@ -245,8 +250,8 @@ fn refuses_kinds(rt: HostRuntime) {
 fn refuses_more_ticks_than_a_segment_has(rt: HostRuntime) -> Result<(), Fail> {
     let mut bytes = [1, 0, 0, 0, 0, 0, 0, 0, 0].to_vec(rt.alloc())?;
     push_groups(&mut bytes, 2048)?;
-    assert_eq!(rt; outcome(rt.alloc(), &bytes), 65536);
+    assert_eq!(rt; outcome(rt.alloc(), &bytes), Ok(Some(65536)));
     bytes.extend_from_slice(&[1, 1, 0, 0, 0])?;
-    assert_eq!(rt; outcome(rt.alloc(), &bytes), 15);
+    assert_eq!(rt; outcome(rt.alloc(), &bytes), Err(Refusal::BadLog));
     Ok(())
 }

@@ -52,19 +52,19 @@ fn small_file(alloc: Global) -> Result<ModelFile, Refusal>
     Ok(file)
 }
 
-// Crashes a file so that it leaves these bytes. Returns the code of the refusal, or 0 if there is
-// none, and the file after it.
-fn crash(file: ModelFile, left: Vec<u8>) -> (u8, ModelFile) {
+// Crashes a file so that it leaves these bytes. Returns the refusal, if there is one, and the file
+// after it.
+fn crash(file: ModelFile, left: Vec<u8>) -> (Option<Refusal>, ModelFile) {
     match file.crash(left) {
-        Ok(file) => (0, file),
-        Err((file, refusal)) => (refusal.code(), file),
+        Ok(file) => (None, file),
+        Err((file, refusal)) => (Some(refusal), file),
     }
 }
 
-// Returns only the code.
-fn crash_code(alloc: Global, file: ModelFile, left: &[u8]) -> Result<u8, Refusal> {
-    let (code, _) = crash(file, left.to_vec(alloc)?);
-    Ok(code)
+// Returns only the refusal.
+fn crash_refusal(alloc: Global, file: ModelFile, left: &[u8]) -> Result<Option<Refusal>, Refusal> {
+    let (refusal, _) = crash(file, left.to_vec(alloc)?);
+    Ok(refusal)
 }
 
 // True if the file has these durable bytes, and these present ones.
@@ -72,65 +72,71 @@ fn holds(file: &ModelFile, durable: &[u8], now: &[u8]) -> bool {
     file.durable() == durable && file.now() == now
 }
 
-// Crashes the torn file so that it leaves these bytes. Returns if the file allows them, the code of
-// the crash, if the file then has the right bytes, and if place 2 is uncertain.
+// Crashes the torn file so that it leaves these bytes. Returns if the file allows them, the refusal
+// of the crash, if the file then has the right bytes, and if place 2 is uncertain.
 fn crash_torn(
     alloc: Global,
     left: &[u8],
     is_taken: bool,
-) -> Result<(bool, u8, bool, bool), Refusal> {
+) -> Result<(bool, Option<Refusal>, bool, bool), Refusal> {
     let file = torn_file(alloc)?;
     let allowed = file.allows(left);
-    let (code, file) = crash(file, left.to_vec(alloc)?);
+    let (refusal, file) = crash(file, left.to_vec(alloc)?);
     let held = if is_taken {
         holds(&file, left, left)
     } else {
         holds(&file, &[0xaa, 0xbb, 0xcc], &[0xaa, 0xbb, 0xdd, 0xee])
     };
-    Ok((allowed, code, held, file.uncertain(2)))
+    Ok((allowed, refusal, held, file.uncertain(2)))
 }
 
 #[test]
 fn leaves_torn_write(rt: HostRuntime) -> Result<(), Fail> {
-    for (left, code) in [
-        ([0xaa, 0xbb, 0].as_slice(), 0),
-        ([0xaa, 0xbb, 0xcc].as_slice(), 0),
-        ([0xaa, 0xbb, 0x11, 0x22].as_slice(), 0),
-        ([0xaa, 0xbb].as_slice(), 20),
-        ([0xaa, 0, 0xcc].as_slice(), 20),
-        ([0xaa, 0xbb, 0x11, 0x22, 0x33].as_slice(), 20),
+    let bad = Some(Refusal::Impossible);
+    for (left, refusal) in [
+        ([0xaa, 0xbb, 0].as_slice(), None),
+        ([0xaa, 0xbb, 0xcc].as_slice(), None),
+        ([0xaa, 0xbb, 0x11, 0x22].as_slice(), None),
+        ([0xaa, 0xbb].as_slice(), bad),
+        ([0xaa, 0, 0xcc].as_slice(), bad),
+        ([0xaa, 0xbb, 0x11, 0x22, 0x33].as_slice(), bad),
     ] {
-        let is_taken = code == 0;
+        let is_taken = refusal.is_none();
         let answer = crash_torn(rt.alloc(), left, is_taken)?;
-        assert_eq!(rt; answer, (is_taken, code, true, !is_taken), "{left:?}");
+        assert_eq!(rt; answer, (is_taken, refusal, true, !is_taken), "{left:?}");
     }
     Ok(())
 }
 
-// The codes of crashes that leave these bytes of the written file: before a sync, after a failed
+// The refusals of crashes that leave these bytes of the written file: before a sync, after a failed
 // one, and after one.
-fn crash_codes(rt: &impl Abort, alloc: Global, left: &[u8]) -> Result<(u8, u8, u8), Refusal> {
-    let before = crash_code(alloc, written_file(alloc)?, left)?;
-    let after_failed = crash_code(alloc, unsynced_file(rt, alloc)?, left)?;
-    let after = crash_code(alloc, synced_file(alloc)?, left)?;
-    Ok((before, after_failed, after))
+fn crash_refusals(
+    rt: &impl Abort,
+    alloc: Global,
+    left: &[u8],
+) -> Result<[Option<Refusal>; 3], Refusal> {
+    let before = crash_refusal(alloc, written_file(alloc)?, left)?;
+    let after_failed = crash_refusal(alloc, unsynced_file(rt, alloc)?, left)?;
+    let after = crash_refusal(alloc, synced_file(alloc)?, left)?;
+    Ok([before, after_failed, after])
 }
 
 #[test]
 fn leaves_overlapping_writes(rt: HostRuntime) -> Result<(), Fail> {
+    let bad = Some(Refusal::Impossible);
     for (left, before_sync, after_sync) in [
-        ([0x11, 0x22].as_slice(), 20, 20),
-        ([0x11, 0x22, 0x33].as_slice(), 0, 20),
-        ([0x11, 0, 0].as_slice(), 0, 20),
-        ([0, 0x22, 0x33].as_slice(), 20, 20),
-        ([0x11, 0xff, 0xff, 0xff].as_slice(), 0, 20),
-        ([0x11, 0xaa, 0xcc, 0xdd, 0xee].as_slice(), 0, 0),
-        ([0x11, 0xaa, 0xbb, 0xdd, 0xee].as_slice(), 0, 20),
-        ([0, 0xaa, 0xcc, 0xdd, 0xee].as_slice(), 20, 20),
-        ([0x11, 0xaa, 0xcc, 0xdd, 0xee, 0].as_slice(), 20, 20),
+        ([0x11, 0x22].as_slice(), bad, bad),
+        ([0x11, 0x22, 0x33].as_slice(), None, bad),
+        ([0x11, 0, 0].as_slice(), None, bad),
+        ([0, 0x22, 0x33].as_slice(), bad, bad),
+        ([0x11, 0xff, 0xff, 0xff].as_slice(), None, bad),
+        ([0x11, 0xaa, 0xcc, 0xdd, 0xee].as_slice(), None, None),
+        ([0x11, 0xaa, 0xbb, 0xdd, 0xee].as_slice(), None, bad),
+        ([0, 0xaa, 0xcc, 0xdd, 0xee].as_slice(), bad, bad),
+        ([0x11, 0xaa, 0xcc, 0xdd, 0xee, 0].as_slice(), bad, bad),
     ] {
-        let codes = crash_codes(&rt, rt.alloc(), left)?;
-        assert_eq!(rt; codes, (before_sync, before_sync, after_sync), "{left:?}");
+        let found = crash_refusals(&rt, rt.alloc(), left)?;
+        assert_eq!(rt; found, [before_sync, before_sync, after_sync], "{left:?}");
     }
     Ok(())
 }
@@ -228,11 +234,11 @@ fn stays(file: &ModelFile, bytes: &[u8]) -> bool {
     file.durable() == bytes && file.allows(bytes)
 }
 
-// Crashes a file so that it leaves these bytes. Returns the code, and how many bytes
+// Crashes a file so that it leaves these bytes. Returns the refusal, and how many bytes
 // the file then has.
-fn crash_length(file: ModelFile, left: Vec<u8>) -> (u8, usize) {
-    let (code, file) = crash(file, left);
-    (code, file.now().len())
+fn crash_length(file: ModelFile, left: Vec<u8>) -> (Option<Refusal>, usize) {
+    let (refusal, file) = crash(file, left);
+    (refusal, file.now().len())
 }
 
 // As many bytes as an image of 65,536 cells has.
@@ -242,6 +248,6 @@ fn grows_to_largest_image(rt: HostRuntime) -> Result<(), Fail> {
     let mut file = ModelFile::new(rt.alloc(), Vec::new(rt.alloc()))?;
     assert_eq!(rt; fill(&mut file, &bytes)?, 524_305);
     assert!(rt; stays(&file, &bytes));
-    assert_eq!(rt; crash_length(file, bytes), (0, 524_305));
+    assert_eq!(rt; crash_length(file, bytes), (None, 524_305));
     Ok(())
 }

@@ -73,13 +73,13 @@ set@1/2   01 0100000000000020 01 0100 0100 01 01000000 0900000000000000 00
 ";
 
 // The names of image.a, image.b, log.a and log.b, and the answer of recovery. It is the tick, the
-// image's tick and file, and the words, or the number of the refusal.
+// image's tick and file, and the words, or the refusal.
 pub(crate) const CASES: &str = "\
-none    none    none     none    refused 13
-gate    none    none     none    refused 13
-shut@1  none    set      none    refused 13
-header  shut@1  set      add@1   refused 13
-none    none    set/cut  none    refused 15
+none    none    none     none    refused NoImage
+gate    none    none     none    refused NoImage
+shut@1  none    set      none    refused NoImage
+header  shut@1  set      add@1   refused NoImage
+none    none    set/cut  none    refused BadLog
 zero    none    none     none    0 from 0 in A: 0
 none    zero    none     none    0 from 0 in B: 0
 one     two     none     none    0 from 0 in A: 1
@@ -89,29 +89,29 @@ five@1  zero    none     none    1 from 1 in A: 5
 five@1  shut@1  none     none    1 from 1 in A: 5
 more@1  none    none     none    1 from 1 in A: 5
 great   none    none     none    0 from 0 in A: 999999999999999999
-greater none    none     none    refused 14
-greater none    set/cut  none    refused 14
-zero    greater none     none    refused 14
-none    greater set/cut  kind    refused 14
-greater none    set      none    refused 14
-none    greater set      add@1   refused 14
-short   none    none     none    refused 14
-nocells none    none     none    refused 14
-cells   none    none     none    refused 14
-late    none    none     none    refused 14
+greater none    none     none    refused BadImage
+greater none    set/cut  none    refused BadImage
+zero    greater none     none    refused BadImage
+none    greater set/cut  kind    refused BadImage
+greater none    set      none    refused BadImage
+none    greater set      add@1   refused BadImage
+short   none    none     none    refused BadImage
+nocells none    none     none    refused BadImage
+cells   none    none     none    refused BadImage
+late    none    none     none    refused BadImage
 last    none    none     none    1000000000000000000 from 1000000000000000000 in A: 7
 last    none    last/log none    1000000000000000000 from 1000000000000000000 in A: 7
-zero    none    past/log none    refused 15
+zero    none    past/log none    refused BadLog
 zero    none    set      add@1   2 from 0 in A: 7
 zero    none    add@1    set     2 from 0 in A: 7
 zero    none    set      add@2   1 from 0 in A: 5
 zero    none    none     add@1   0 from 0 in A: 0
 zero    none    set/empty set    1 from 0 in A: 5
 zero    none    set      set     1 from 0 in A: 5
-zero    none    set      less@1  refused 15
-zero    none    set/cut  none    refused 15
-zero    none    none     set/cut refused 15
-five@1  none    set/cut  add@1   refused 15
+zero    none    set      less@1  refused BadLog
+zero    none    set/cut  none    refused BadLog
+zero    none    none     set/cut refused BadLog
+five@1  none    set/cut  add@1   refused BadLog
 zero    none    set/end  none    1 from 0 in A: 5
 zero    none    set/shut none    0 from 0 in A: 0
 zero    none    set/nine none    0 from 0 in A: 0
@@ -120,13 +120,13 @@ zero    none    set,add  none    2 from 0 in A: 7
 zero    none    set-add  none    1 from 0 in A: 5
 zero    none    set+add  add@1   2 from 0 in A: 7
 zero    none    set+add  add@2   3 from 0 in A: 9
-zero    none    set+self none    refused 15
-zero    none    cell     none    refused 15
+zero    none    set+self none    refused BadLog
+zero    none    cell     none    refused BadLog
 zero    none    idle     none    1 from 0 in A: 0
-zero    none    kind     none    refused 15
-zero    none    noticks  none    refused 15
-zero    none    ticks    none    refused 15
-zero    none    actions  none    refused 15
+zero    none    kind     none    refused BadLog
+zero    none    noticks  none    refused BadLog
+zero    none    ticks    none    refused BadLog
+zero    none    actions  none    refused BadLog
 five@1  none    set      none    1 from 1 in A: 5
 five@1  none    set      add@1   2 from 1 in A: 7
 five@1  zero    set      add@1   2 from 1 in A: 7
@@ -144,25 +144,25 @@ pub(crate) const CASES_OF_A_FORMAT: &str = "\
 pair    none    swap,cap/2 none   1 from 0 in A: 3 5
 pair/2  none    swap,cap/2 none   1 from 0 in A: 3 5
 none    pair/2  none  swap,cap/2  1 from 0 in B: 3 5
-pair    none    swap,cap none     refused 15
-pair/2  none    swap,cap none     refused 15
-pair/2  none    none     swap,cap refused 15
-pair    none    cap      none     refused 15
+pair    none    swap,cap none     refused BadLog
+pair/2  none    swap,cap none     refused BadLog
+pair/2  none    none     swap,cap refused BadLog
+pair    none    cap      none     refused BadLog
 pair    none    cap/2    none     1 from 0 in A: 5 3
-pair/2  none    cap/much none     refused 15
-pair/2  none    cap/cell none     refused 15
-pair/2  none    swap/self none    refused 15
-pair/2  none    kind/6   none     refused 15
-pair/10 none    none     none     refused 14
-pair/1f none    none     none     refused 14
-pair/30 none    none     none     refused 14
-none/2  none    none     none     refused 14
-pair/2  pair/10 none     none     refused 14
-pair/10 none    empty/10 none     refused 14
-shut/10 none    none     none     refused 13
+pair/2  none    cap/much none     refused BadLog
+pair/2  none    cap/cell none     refused BadLog
+pair/2  none    swap/self none    refused BadLog
+pair/2  none    kind/6   none     refused BadLog
+pair/10 none    none     none     refused BadImage
+pair/1f none    none     none     refused BadImage
+pair/30 none    none     none     refused BadImage
+none/2  none    none     none     refused BadImage
+pair/2  pair/10 none     none     refused BadImage
+pair/10 none    empty/10 none     refused BadImage
+shut/10 none    none     none     refused NoImage
 shut/10 pair/2  none     none     0 from 0 in B: 5 7
-pair/2  none    empty/10 none     refused 15
-pair/2  none    none     empty/30 refused 15
+pair/2  none    empty/10 none     refused BadLog
+pair/2  none    none     empty/30 refused BadLog
 pair/2  none    swap,cap/2 set@1  2 from 0 in A: 3 9
 pair    none    swap,cap/2 set@1/2 2 from 0 in A: 3 9
 pair    none    set@1    cap/2    2 from 0 in A: 5 9

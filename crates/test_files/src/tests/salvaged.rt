@@ -10,10 +10,10 @@ use world_actions::Refusal;
 // recovery, and what is taken of each file. Of an image this is its tick. Of a segment it is its
 // base and the number of its ticks, and the place of a cut.
 const SALVAGED: &str = "\
-none    none    none     none    refused 13
-none    none    set      add@1   refused 13
-greater short   set      none    refused 13
-gate    greater set      add@1   refused 13
+none    none    none     none    refused NoImage
+none    none    set      add@1   refused NoImage
+greater short   set      none    refused NoImage
+gate    greater set      add@1   refused NoImage
 zero    none    set      add@1   2 from 0 in A: 7; 0, closed, 0+1, 1+1
 greater five@1  none     none    1 from 1 in B: 5; dropped, 1, closed, closed
 five@1  greater set      add@1   2 from 1 in A: 7; 1, dropped, 0+1, 1+1
@@ -79,7 +79,7 @@ fn reported(alloc: Global, files: &[Vec<u8>]) -> Result<String, Refusal> {
         return Ok(format!(in alloc; "not four files")?);
     };
     match salvage(alloc, image_a, image_b, log_a, log_b) {
-        Err(refusal) => Ok(format!(in alloc; "refused {}", refusal.code())?),
+        Err(refusal) => Ok(format!(in alloc; "refused {refusal:?}")?),
         Ok(salvaged) => salvaged_text(alloc, &salvaged),
     }
 }

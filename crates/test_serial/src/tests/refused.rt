@@ -21,17 +21,17 @@ const BAD_LOG: &[u8] = &[1, 0, 0, 0, 0, 0, 0, 0, 0, 1];
 // A closed image or segment.
 const SHUT: &[u8] = &[0, 1, 2];
 
-// Returns the number of the refusal, and if the files are given back with these bytes.
+// Returns the refusal, and if the files are given back with these bytes.
 fn refused<T: Drop>(
     answer: Result<T, (FourFiles<ModelFile>, Refusal)>,
     bytes: [&[u8]; 4],
-) -> Option<(u8, bool)> {
+) -> Option<(Refusal, bool)> {
     match answer {
         Ok(_) => None,
         Err((files, refusal)) => {
             let are_same = bytes_of(&files) == bytes;
             drop(files);
-            Some((refusal.code(), are_same))
+            Some((refusal, are_same))
         }
     }
 }
@@ -39,8 +39,8 @@ fn refused<T: Drop>(
 // Asserts that no new world is made of these files, which are given back as they were.
 fn try_not_empty(rt: &impl Abort, alloc: Global, bytes: [&[u8]; 4]) {
     let answer = fresh_files(alloc, 1, files_of(rt, alloc, bytes));
-    let code = Refusal::NotEmpty.code();
-    same(rt, "a refusal", refused(answer, bytes), Some((code, true)));
+    let want = Some((Refusal::NotEmpty, true));
+    same(rt, "a refusal", refused(answer, bytes), want);
 }
 
 static OPEN: [[&[u8]; 4]; 8] = [
@@ -74,8 +74,8 @@ pub fn try_created_again(rt: &impl Abort, alloc: Global) {
     let bytes = bytes_of(&made);
     let files = files_of(rt, alloc, bytes);
     let answer = create_and_open::<PlainCopy, ModelFile>(alloc, 1, files, 64);
-    let code = Refusal::NotEmpty.code();
-    same(rt, "a refusal", refused(answer, bytes), Some((code, true)));
+    let want = Some((Refusal::NotEmpty, true));
+    same(rt, "a refusal", refused(answer, bytes), want);
     drop(made);
 }
 
@@ -87,27 +87,28 @@ pub fn try_closed_files(rt: &impl Abort, alloc: Global) {
     drop(files);
 }
 
-static DAMAGED: [([&[u8]; 4], u8); 8] = [
-    ([NONE; 4], 13),
-    ([SHUT; 4], 13),
-    ([NONE, SHUT, LOG, NONE], 13),
-    ([BAD_IMAGE, IMAGE, NONE, NONE], 14),
-    ([IMAGE, BAD_IMAGE, BAD_LOG, NONE], 14),
-    ([IMAGE, NONE, BAD_LOG, NONE], 15),
-    ([NONE, IMAGE, LOG, BAD_LOG], 15),
-    ([NONE, NONE, NONE, BAD_LOG], 15),
+static DAMAGED: [([&[u8]; 4], Refusal); 8] = [
+    ([NONE; 4], Refusal::NoImage),
+    ([SHUT; 4], Refusal::NoImage),
+    ([NONE, SHUT, LOG, NONE], Refusal::NoImage),
+    ([BAD_IMAGE, IMAGE, NONE, NONE], Refusal::BadImage),
+    ([IMAGE, BAD_IMAGE, BAD_LOG, NONE], Refusal::BadImage),
+    ([IMAGE, NONE, BAD_LOG, NONE], Refusal::BadLog),
+    ([NONE, IMAGE, LOG, BAD_LOG], Refusal::BadLog),
+    ([NONE, NONE, NONE, BAD_LOG], Refusal::BadLog),
 ];
 
 // Asserts that no world is opened in these files, which are given back as they were.
-fn try_damaged(rt: &impl Abort, alloc: Global, bytes: [&[u8]; 4], code: u8) {
+fn try_damaged(rt: &impl Abort, alloc: Global, bytes: [&[u8]; 4], refusal: Refusal) {
     let files = files_of(rt, alloc, bytes);
     let answer = SerialWorld::<PlainCopy, ModelFile>::open(alloc, files, 64);
-    same(rt, "a refusal", refused(answer, bytes), Some((code, true)));
+    let want = Some((refusal, true));
+    same(rt, "a refusal", refused(answer, bytes), want);
 }
 
 /// Tries each of the damaged worlds.
 pub fn try_damaged_files(rt: &impl Abort, alloc: Global) {
-    for (bytes, code) in &DAMAGED {
-        try_damaged(rt, alloc, *bytes, *code);
+    for (bytes, refusal) in &DAMAGED {
+        try_damaged(rt, alloc, *bytes, *refusal);
     }
 }
