@@ -5,7 +5,7 @@
     scripts/trusted_lines.py unreached        the definitions that no contract of a crate reaches, too
     scripts/trusted_lines.py of CRATE NAME    for one function's contract, as `step` or `Together::step`
 
-For README's promises, its theorem and its table, these are the contracts that they cite, those of all traits, which are
+For README's promises, its theorems and its table, these are the contracts that they cite, those of all traits, which are
 premises on disks, folders and sessions, and the definitions in specs/, the types and the constants that they reach. The
 prover shows these contracts from those of the functions below them, which need no belief. The other count has the
 contracts of all that each crate hands out.
@@ -41,9 +41,9 @@ DEFINITION = re.compile(r"(?:unfoldable |abbrev )?pub (?:record |data )?([^\s:({
 CASE = re.compile(r"  (\w+) :")
 ITEM = re.compile(r"(pub |pub\(\w+\) )?(?:const )?(fn|trait|struct|enum) (\w+)")
 IMPL = re.compile(r"impl(?:<.*?>)? (?:(\w[\w:]*)(?:<.*>)? for )?(\w+)")
-# README's theorem, by its crate and function; its table of promises, and the contracts of a row. What follows a colon are names
-# of clauses.
-THEOREM = re.compile(r"^It is proved of the core \(`(\w+)::(\w+)`", re.MULTILINE)
+# The lines that say what proves README's theorems; its table of promises, and the contracts of a row. Names of clauses follow a
+# colon.
+THEOREMS = re.compile(r"^`serve_world`.*?(?=^Images are made)", re.MULTILINE | re.DOTALL)
 TABLE = re.compile(r"^## What is proved$(.*?)^## ", re.MULTILINE | re.DOTALL)
 ROW = re.compile(r"^\| .* \| (`.*`) \|$", re.MULTILINE)
 CLAUSES = re.compile(r"(?<=`): (?:`\w+`(?:, )?)+")
@@ -159,10 +159,11 @@ def cited_in_readme() -> set[Item]:
     return {(owner or name, name) for owner, name in cited}
 
 
-def theorem_of_readme() -> tuple[str, Item]:
-    """The crate and the function whose contract is README's theorem."""
-    crate, name = THEOREM.findall(pathlib.Path("README.md").read_text())[0]
-    return crate, (name, name)
+def theorems_of_readme() -> set[tuple[str, Item]]:
+    """The functions whose contracts README's theorems are, each with its crate if that is named."""
+    text = THEOREMS.findall(pathlib.Path("README.md").read_text())[0]
+    cited = CITED.findall(CLAUSES.sub("", text))
+    return {(owner, (name, name)) if owner.islower() else ("", (owner or name, name)) for owner, name in cited}
 
 
 def of_traits(path: pathlib.Path) -> set[str]:
@@ -216,7 +217,7 @@ class Tree:
         self.lines: collections.Counter[str] = collections.Counter()
         self.clauses: list[Clause] = []
         self.cited = cited_in_readme()
-        self.theorem = theorem_of_readme()
+        self.theorems = theorems_of_readme()
         self.served = {"worldd"} | below(read_crates())["worldd"]
         for crate in sorted(pathlib.Path("crates").iterdir()):
             for kind in ("src", "specs", "proofs"):
@@ -256,9 +257,9 @@ class Tree:
         return len(own), sum(self.known[name][0] for name in names)
 
     def of_readme(self, clause: Clause) -> bool:
-        """Whether README's theorem or its table asks for this line."""
-        is_of_table = clause.crate in self.served and clause.item in self.cited
-        return clause.is_of_trait or is_of_table or (clause.crate, clause.item) == self.theorem
+        """Whether README's theorems or its table ask for this line."""
+        is_cited = clause.item in self.cited or ("", clause.item) in self.theorems
+        return clause.is_of_trait or (clause.crate in self.served and is_cited) or (clause.crate, clause.item) in self.theorems
 
 
 def handed_out(clause: Clause) -> bool:
