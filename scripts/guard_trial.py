@@ -266,7 +266,11 @@ class Kills(kill_trial.Trial):
         """Kills a server at a random moment of play. It says if the guard was written in play before."""
         before = self.found
         with self.serve(run) as server:
-            clients = self.play(server, run, None)
+            clients, end = self.play(server, run, None), time.monotonic() + PATIENCE_SECONDS
+            # The first one is killed after a guard in play for certain.
+            while run == 0 and guard_of(self.room / "world").acked <= before.tick:
+                want(time.monotonic() < end, "no guard is written in play")
+                time.sleep(SETTLING_SECONDS)
             time.sleep(self.chance.uniform(*PLAY_SECONDS))
             server.kill()
             answered, unanswered = collected(clients, before.tick)
@@ -645,9 +649,12 @@ class Trial:
 
     def forks(self) -> None:
         """A backup was played on as its world was. Some files of the world are replaced by those of the backup."""
-        forks = list(itertools.product(EVERY, FORKED_BEFORE, BRANCHES))
+        chance, forks = self.chance("forks"), list(itertools.product(EVERY, FORKED_BEFORE, BRANCHES))
         count = len(forks) if self.tries_all else max(2, self.rounds // 4)
-        for every, before, (here, there) in self.chance("forks").sample(forks, count):
+        # Logs of a backup that was played less far are older, if no image was due.
+        older = [fork for fork in forks if fork[0] == EVERY[-1] and fork[2][0] > fork[2][1]]
+        chosen = dict.fromkeys((chance.choice(older), *chance.sample(forks, len(forks))))
+        for every, before, (here, there) in itertools.islice(chosen, count):
             world, marks, backup = self.world(ASK), list[int](), self.folder()
             self.serve_on(world, marks, every=every, count=before)
             ask(self.worldd, "backup", world, "--to", str(backup))
@@ -857,8 +864,9 @@ class Trial:
             folder = self.world(ASK)
             with self.serve(folder, every=every) as server:
                 with self.played(server, LONGER_SECONDS if is_slow else PAUSE_SECONDS):
-                    for _ in range(count):
-                        to = self.copied_in_play(folder, is_slow)
+                    tried, end = 0, time.monotonic() + PATIENCE_SECONDS
+                    while tried < count or (is_slow and not self.met["slowly copied in play"] and time.monotonic() < end):
+                        to, tried = self.copied_in_play(folder, is_slow), tried + 1
                 server.end()
             copied = guard_of(to)
             with self.serve(to) as server:
