@@ -169,8 +169,8 @@ def losses(files: Files, found: Found, refuses: bool) -> list[Refused]:
 
 def odd_files(files: Files, found: Found) -> Iterator[Refused]:
     """The closed files that no crash leaves so: an image beside one of a tick above 0, and a log once a tick is recovered, whose
-    gate isn't 00; and log.a without a header of format 2, if log.b has one. A gate of log.b that isn't 01 either counts in a segment
-    with a group and a base from 1 to that tick."""
+    gate isn't 00; and log.a without a header of format 2, if log.b has one. A gate of log.b that isn't 01 either counts in a
+    segment with a group and a base from 1 to that tick."""
     for place, (name, data) in enumerate(zip(NAMES, files)):
         code, what, head, reached = (14, "an image", 17, found.source) if place < 2 else (15, "a log", 10, found.tick)
         if not data or (len(data) >= head and data[0] == 1) or not reached:

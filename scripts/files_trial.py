@@ -40,9 +40,10 @@ LONG, LIMITED = 1 << 16, 1 << 16
 SUMMARY = (
     "files trial: {rows} known and {sets} random sets: recovered from an image {alone} times, with a segment {one} and with both "
     "{two}; refused with 13 {none}, with 14 {image}, with 15 for a segment {log} and for an action {action}; of format 1 {old}, "
-    "of format 2 {new}, of both {both}; looked lost: images {lost_image}, logs {lost_log}, ticks before a log {gap}; closed as no "
-    "crash leaves them: images {odd_image}, log.a {odd_log_a}, log.a without a header {headless}, log.b {odd_log_b}; refused by "
-    "the flag {refused}; served {served}, copied {copied}; {created} worlds made, {batches} batches logged, {statuses} statuses"
+    "of format 2 {new}, of both {both}; looked lost: images {lost_image}, logs {lost_log}, ticks before a log {gap}; closed as "
+    "no crash leaves them: images {odd_image}, log.a {odd_log_a}, log.a without a header {headless}, log.b {odd_log_b}; "
+    "refused by the flag {refused}; served {served}, copied {copied}; {created} worlds made, {batches} batches logged, "
+    "{statuses} statuses"
 )
 
 

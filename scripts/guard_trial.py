@@ -71,8 +71,8 @@ NOTICED_SECONDS, WRITTEN_SECONDS = 0.8, 1.3
 
 # How long a guard is looked at, and a server plays before it is killed.
 SAMPLED_SECONDS, PLAY_SECONDS = 3.2, (0.05, 2.0)
-# How many copies of a served world are taken. A slow one, while images are rare, waits so long at most after each read. Its client
-# pauses longer after each batch, since a copy begins anew if a tick is played before its last read.
+# How many copies of a served world are taken. A slow one, while images are rare, waits so long at most after each read. Its
+# client pauses longer after each batch, since a copy begins anew if a tick is played before its last read.
 COPIES, SLOW_COPIES, SLOWED_MICROSECONDS = 8, 4, 15_000
 PAUSE_SECONDS, LONGER_SECONDS = 0.001, 0.02
 # After how many samples other commands look at the world.
@@ -194,8 +194,8 @@ CASES = (
     "loss accepted", "nothing to accept", "loss not accepted before its guard",
     *(f"{command} refuses what is no guard" for command in (*LOOKS, "serve")), "gone on without one",
     *(f"checked as {what}" for what in (
-        "well", "unguarded", "not served", "older", "log down", "images down", "replaced", "hung at its log", "stopped", "gone on",
-        "idle",
+        "well", "unguarded", "not served", "older", "log down", "images down", "replaced", "hung at its log", "stopped",
+        "gone on", "idle",
     )),
 )
 # What has to be met of each call, and isn't printed.

@@ -121,7 +121,8 @@ def fault_of(folder: pathlib.Path, code: int, name: str, why: str) -> str:
 
 def try_command_lines(trial: Trial) -> None:
     """Wrong command lines, help, the version, and words that aren't text."""
-    serve = "Usage: worldd serve --dir <FOLDER> --method <METHOD> <--port <P>|--socket <PATH>> <--clients <K>|--unlimited-clients>"
+    serve = "Usage: worldd serve --dir <FOLDER> --method <METHOD> <--port <P>|--socket <PATH>> "
+    serve += "<--clients <K>|--unlimited-clients>"
     make = "Usage: worldd create --dir <FOLDER> <--cells <N>|--words <FILE>>"
     lacking = "the following required arguments were not provided:\n  "
     whole = "serve --dir world --method zigzag --clients 1"
@@ -179,7 +180,11 @@ def try_command_lines(trial: Trial) -> None:
     usage = "\n\nUsage: worldd"
     for words, start, end in (
         ("", f"A main-memory world server with asynchronous checkpoints{usage} <COMMAND>\n", "  -V, --version  Print version\n"),
-        ("steps", f"Runs the script on standard input, over a world in memory{usage} steps [OPTIONS]\n", "21 no tick numbers are left\n"),
+        (
+            "steps",
+            f"Runs the script on standard input, over a world in memory{usage} steps [OPTIONS]\n",
+            "21 no tick numbers are left\n",
+        ),
         (
             "create",
             f"Makes the files of a new world in a folder\n\n{make.replace('create --dir', 'create [OPTIONS] --dir')}\n",
@@ -204,13 +209,13 @@ def try_command_lines(trial: Trial) -> None:
         ),
         (
             "backup",
-            "Copies the world in a folder, also while it is served\n\nUsage: worldd backup [OPTIONS] --dir <FOLDER> --to <FOLDER>\n",
+            f"Copies the world in a folder, also while it is served{usage} backup [OPTIONS] --dir <FOLDER> --to <FOLDER>\n",
             "\n  began a new image under each of 1000 tries, 22 the folder of the copy isn't empty, or\n"
             "  lies in that of the world\n",
         ),
         (
             "salvage",
-            "Makes a world of what can be read of damaged or lost files\n\nUsage: worldd salvage [OPTIONS] --dir <FOLDER> --to <FOLDER>\n",
+            f"Makes a world of what can be read of damaged or lost files{usage} salvage [OPTIONS] --dir <FOLDER> --to <FOLDER>\n",
             "\n  22 the folder of the new files isn't empty, or lies in that of the world\n",
         ),
         (
@@ -328,7 +333,8 @@ def try_not_creating(trial: Trial) -> None:
 def try_words(trial: Trial) -> None:
     """Worlds that are made of the words in a file, and files that list none: the line is named, and nothing is made."""
     most = 999_999_999_999_999_999
-    for text, words in (("5\n7\n", (5, 7)), ("5 7\n", (5, 7)), (f"0\n{most}\n", (0, most)), ("1 2\n3\n4 5\n6\n", (1, 2, 3, 4, 5, 6))):
+    lists = ("5\n7\n", (5, 7)), ("5 7\n", (5, 7)), (f"0\n{most}\n", (0, most)), ("1 2\n3\n4 5\n6\n", (1, 2, 3, 4, 5, 6))
+    for text, words in lists:
         with new_folder() as folder:
             listed = folder / "words"
             listed.write_text(text)
@@ -698,7 +704,8 @@ def try_doubtful(trial: Trial) -> None:
                 recovered, status = "recovered 0 from 0\n", 14 if named else 0
                 on = *more, "--dir", str(folder)
                 trial.ends(f"recover beside {logs}", trial.run("recover", *on), recovered, named, status)
-                trial.ends(f"backup beside {logs}", trial.run("backup", *on, "--to", str(to)), "backed up 0 from 0\n", named, status)
+                copied = trial.run("backup", *on, "--to", str(to))
+                trial.ends(f"backup beside {logs}", copied, "backed up 0 from 0\n", named, status)
                 for command in "inspect", "status":
                     got = trial.run(command, *on, "--statuses", "detailed")
                     trial.check(f"{command} beside {logs}", (got.errors, got.status), (named, status))
@@ -943,15 +950,16 @@ def try_reporting_down(trial: Trial) -> None:
 
 PARTS = (
     try_command_lines, try_scripts, try_creating, try_completing, try_not_creating, try_words, try_larger, try_found,
-    try_figures, try_copies, try_salvaged, try_lost, try_doubtful, try_long, try_missing, try_damaged, try_not_serving, try_serving,
-    try_largest, try_reporting, try_reporting_down,
+    try_figures, try_copies, try_salvaged, try_lost, try_doubtful, try_long, try_missing, try_damaged, try_not_serving,
+    try_serving, try_largest, try_reporting, try_reporting_down,
 )
 
 
 # What has to be seen.
 SEEN = (
     "status 0", "status 2", "status 14", *(f"status 1, fault {code}" for code in (13, 14, 15, 16, 18, 22)),
-    "served", "served beside an empty log", "served beside a lost file", "served beside a closed file", "reported with its log down",
+    "served", "served beside an empty log", "served beside a lost file", "served beside a closed file",
+    "reported with its log down",
 )
 
 

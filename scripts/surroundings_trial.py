@@ -108,8 +108,9 @@ CASES = (
     "socket with its mode", "socket removed", "old socket replaced", "socket in use kept", "socket's place taken",
     "other file kept", "next server's socket kept", "fault 16 not reset",
     "client refused", "listener lost", "left when closed", "left at once when closed", "left with its log down",
-    "lost file named", "left for a lost file", "room named", "refused without room", "images down ended it", "little room ended it",
-    "ended by no image that is up", "sync interrupted", "fsync failed", "fdatasync failed", "pwrite failed", "create without room",
+    "lost file named", "left for a lost file", "room named", "refused without room", "images down ended it",
+    "little room ended it", "ended by no image that is up", "sync interrupted", "fsync failed", "fdatasync failed",
+    "pwrite failed", "create without room",
     "made meanwhile", "shortage at a start", "read tried again", "read failed again", "file of a copy left", *SERVER_LINES,
     "second server refused", "reader waited for", "reader too slow", "start beside looks", "one of two servers",
 )
@@ -562,7 +563,8 @@ class Trial:
             self.met["left for a lost file"] += 1
 
     def without_images(self, *flags: str) -> tuple[Server, int, collections.Counter[bytes]]:
-        """A server of a large world whose images fail once it listens: how many ticks its clients were answered, and their faults."""
+        """A server of a large world whose images fail once it listens: how many ticks its clients were answered, and their
+        faults."""
         folder = self.folder()
         create(self.worldd, folder, LARGE_WORLD)
         server = Server(self.worldd, folder, "--every", "4096", *flags)
@@ -614,7 +616,8 @@ class Trial:
                 ticks += 1
                 time.sleep(0.02)
             status, took = server.end()[0], time.monotonic() - begun_at
-            want(status == IMAGES_DOWN and seconds <= took < seconds + 3, f"it ended with {status} after {took} s and not {seconds}")
+            is_so = status == IMAGES_DOWN and seconds <= took < seconds + 3
+            want(is_so, f"it ended with {status} after {took} s and not {seconds}")
             self.met["images down ended it"] += 1
             server.holds(ticks)
 
