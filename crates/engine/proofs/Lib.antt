@@ -1,0 +1,10 @@
+pub mod Acting
+pub mod Beginning
+pub mod Faults
+pub mod Following
+pub mod Queues
+pub mod Rest
+pub mod Rounds
+pub mod Runs
+pub mod Sound
+pub mod Words

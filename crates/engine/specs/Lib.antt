@@ -1,0 +1,9 @@
+pub mod Begins
+pub mod Follows
+pub mod Fuses
+pub mod Laws
+pub mod Parts
+pub mod Refusals
+pub mod Runs
+pub mod Steps
+pub mod World
