@@ -1,5 +1,3 @@
-pub mod CopiedWords
 pub mod FreshlyServed
 pub mod NotCreated
 pub mod Playing
-pub mod Queues

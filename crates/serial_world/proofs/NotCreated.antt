@@ -9,7 +9,8 @@ use Rattle.image_files.specs.Image.{image_of}
 use Rattle.action_log.specs.Segment.{Segment}
 use Rattle.action_log.specs.Spellings.{ReadsOnce}
 use Rattle.recovery.specs.Recovery.{Recovery, Recovers, Newest, recovery_with, recovery_from, recovery_of, words_after, tail, newest, is_bad_image, is_bad_segment}
-use Rattle.world_start.specs.Opening.{AreSound, IsRefused}
+use Rattle.engine.specs.Follows.{AreSound}
+use Rattle.world_start.specs.Opening.{IsRefused}
 use Rattle.world_start.specs.Fresh.{AreMade, AreNotMade}
 use Rattle.world_start.proofs.Recovered.{recovers_on}
 use Rattle.serial_world.specs.Opened.{IsNotOpened, IsRefusedNew, IsNotCreated}

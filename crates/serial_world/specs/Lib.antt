@@ -1,4 +1,2 @@
 pub mod Opened
 pub mod Runs
--- inside: for private functions only
-pub mod Steps

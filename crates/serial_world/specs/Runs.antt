@@ -4,7 +4,6 @@ use Rattle.std.specs.Prelude.{Some, None, Result, Ok, Err}
 use Rattle.world_actions.specs.declared.action.Action.{Action}
 use Rattle.world_actions.specs.declared.refusal.Refusal.{Refusal}
 use Rattle.world_actions.specs.declared.refusal.Refusal.TheVariants.{LogDown, NoMemory}
-use Rattle.capture_core.specs.Content.{Content}
 use Rattle.disk_model.specs.declared.four_files.FourFiles.{FourFiles}
 use Rattle.file_format.specs.declared.slot.Slot.{Slot}
 use Rattle.file_format.specs.Slot.{in_slot}
@@ -14,7 +13,7 @@ use Rattle.action_log.specs.Refusals.{tick_refusal}
 use Rattle.batches.specs.declared.batch.Request.{Request}
 use Rattle.batches.specs.Answer.{answer, accepted_of, words_after}
 use Rattle.serial_world.specs.declared.state.SerialState.{SerialState}
-use Rattle.world_start.specs.Engine.{Follows}
+use Rattle.engine.specs.Follows.{Follows}
 
 -- whatever a crash leaves, one of the image files has an image of this tick
 abbrev pub HasImageOf : {D : Type 0} → (leaves : D → List ℕ → Type 0)
@@ -24,18 +23,19 @@ HasImageOf leaves files tick =
     × ((left : List ℕ) → in_slot slot (leaves files.image_a) (leaves files.image_b) left
     → image_of left ≡ Open tick words)
 
-module _ {C D : Type 0} (content : C → Content) (file : D → List ℕ)
-    (leaves : D → List ℕ → Type 0) (honest : Bool) where
+module _ {C D : Type 0} (file : D → List ℕ) (leaves : D → List ℕ → Type 0)
+    (honest : Bool) where
   -- the words of the world
   abbrev pub words_of : SerialState C D → List ℕ
-  words_of s = (content s.engine.store).live
+  words_of s = s.engine.content.live
 
-  -- The start is over, and from these first words these ticks have ended, of which `acked` are
-  -- acknowledged. The world and its files follow them.
+  -- The start is over, and no tick is running. From these first words these ticks have ended, of
+  -- which `acked` are acknowledged. The world and its files follow them.
   pub record Serves (s : SerialState C D) (first : List ℕ)
       (ticks : List (List Action)) : Type 0 where
     pub started : s.engine.log.starting ≡ false
-    pub follows : Follows content file leaves s.engine s.files first ticks s.acked
+    pub running : s.engine.running ≡ []
+    pub follows : Follows file leaves s.engine first ticks s.acked
 
   -- a batch ended as one tick, even if nothing of it was accepted
   pub record PlaysTick (old : SerialState C D) (requests : List Request)
@@ -59,7 +59,7 @@ module _ {C D : Type 0} (content : C → Content) (file : D → List ℕ)
         ⊎ ((new.engine.since ≡ 0) × (old.every ≤ old.engine.since + 1))
     pub image : IsTrue honest → (first : List ℕ) (ticks : List (List Action))
         → Serves old first ticks → old.every ≤ old.engine.since + 1
-        → (new.engine.images.phase ≡ Down) ⊎ HasImageOf leaves new.files new.engine.ended
+        → (new.engine.images.phase ≡ Down) ⊎ HasImageOf leaves new.engine.files new.engine.ended
 
   -- a batch was answered with this text, and its tick is acknowledged
   pub record Answered (old : SerialState C D) (requests : List Request) (text : List ℕ)
@@ -96,10 +96,3 @@ module _ {C D : Type 0} (content : C → Content) (file : D → List ℕ)
       → (new : SerialState C D) → Type 0
   Runs old requests (Ok text) new = Answered old requests text new
   Runs old requests (Err refusal) new = IsRefusedBatch old requests refusal new
-
-  -- the world stays as it is; only what its store keeps beside its content may change
-  pub record IsSameWorld (old new : SerialState C D) : Type 0 where
-    pub same : new ≡ record old { engine = record old.engine { store = new.engine.store } }
-    pub content_is : content new.engine.store ≡ content old.engine.store
-    pub serves : (first : List ℕ) (ticks : List (List Action))
-        → Serves old first ticks → Serves new first ticks

@@ -22,7 +22,7 @@ pub fn create_and_open<C: Capture, D: Disk>(
 ) -> Result<SerialWorld<C, D>, (FourFiles<D>, Refusal)>
     requires { (1 ≤ cells) × (cells ≤ CELLS) }
     ensures served { IsTrue D.honest → AreSynced D.content D.may_leave files
-        → IfOk result (IsServedFresh C.content D.content D.may_leave D.honest cells) }
+        → IfOk result (IsServedFresh D.content D.may_leave D.honest cells) }
     ensures every { IfOk result (λ served. served.every ≡ every) }
     ensures refused { IfErr result (λ refused.
         IsRefusedNew D.content D.may_leave D.honest files refused.1) }

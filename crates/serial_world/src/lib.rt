@@ -10,14 +10,9 @@
 //! `acked` (`served_worlds_are_safe`).
 #![tactic(auto)]
 
-mod answers;
 mod created;
 mod laws;
-mod marks;
-mod opening;
 mod state;
-mod ticks;
-mod words;
 mod world;
 
 pub use created::create_and_open;

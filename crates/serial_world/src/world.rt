@@ -2,25 +2,24 @@ ghost use Rattle.std.specs.Prelude.{◌≡◌, ◌≤◌, ◌<◌, [], List, len
 ghost use Rattle.std.specs.Prelude.{IfOk, IfErr, OnOk, OnErr, ℕ};
 ghost use Rattle.world_actions.specs.declared.action.Action.{Action};
 ghost use Rattle.batches.specs.Answer.{answers_of};
-ghost use Rattle.serial_world.specs.Runs.{Runs, Serves, Acknowledged, IsRefusedBatch, IsSameWorld};
+ghost use Rattle.serial_world.specs.Runs.{Runs, Serves, Acknowledged, IsRefusedBatch};
 ghost use Rattle.image_files.specs.declared.phase.Phase.TheVariants.{Idle};
-ghost use Rattle.world_start.specs.Parts.{AreAtRest, AreSettled};
+ghost use Rattle.engine.specs.Parts.{AreAtRest, AreSettled};
 ghost use Rattle.world_start.specs.Opening.{HasFaulted, AreSynced, IsRecovered, IsRefused};
 ghost use Rattle.serial_world.specs.Opened.{IsOpened, IsNotOpened};
 
-use crate::opening::open_engine;
 use crate::state::SerialState;
-use crate::words::{read_word, words_of};
 use action_log::log_outcomes;
 use batches::{Answer, Batch};
 use capture_core::Capture;
 use disk_model::{Disk, FourFiles};
+use engine::{Parts, followed_files_are_sound};
 use image_files::images_stay;
 use sessions::World;
 use std::alloc::Global;
 use std::marker::Model;
 use world_actions::Refusal;
-use world_start::Parts;
+use world_start::{Start, recover_world};
 
 /// A world that is served from its four files, whatever its store and whatever disks they are on.
 #[derive(Drop)]
@@ -30,14 +29,14 @@ pub struct SerialWorld<C: Capture, D: Disk> {
 
 impl<C: Capture, D: Disk> Model for SerialWorld<C, D> {
     ghost use Rattle.serial_world.specs.declared.state.SerialState.{SerialState as State};
-    ghost use Rattle.world_start.specs.Steps.{IsAtRest};
+    ghost use Rattle.engine.specs.World.{IsAtRest};
 
     ghost Value = { State C D };
 
     ghost view = { λ world. world.state };
 
     ghost invariant = { λ world.
-        IsAtRest C.content D.content D.honest world.state.engine world.state.files };
+        IsAtRest world.state.engine };
 }
 
 impl<C: Capture, D: Disk> SerialWorld<C, D> {
@@ -49,8 +48,8 @@ impl<C: Capture, D: Disk> SerialWorld<C, D> {
         every: u32,
     ) -> Result<Self, (FourFiles<D>, Refusal)>
         ensures opened { IsTrue D.honest
-            → IfOk result (IsOpened C.content D.content D.may_leave D.honest files) }
-        ensures recovered { IfOk result (λ served. IsRecovered C.content D.content D.honest files
+            → IfOk result (IsOpened D.content D.may_leave D.honest files) }
+        ensures recovered { IfOk result (λ served. IsRecovered D.content D.honest files
             served.engine served.recovered.0 served.recovered.1) }
         ensures up { IfOk result (λ served. served.engine.log.down ≡ false) }
         ensures begun { IfOk result (λ served. (served.engine.since ≡ 0)
@@ -62,20 +61,24 @@ impl<C: Capture, D: Disk> SerialWorld<C, D> {
             IsNotOpened D.content D.may_leave files refused.1 refused.0) }
         ensures device { IfErr result (λ refused. HasFaulted D.faults files refused.0 refused.1) }
     {
-        let mut files = files;
-        match open_engine(alloc, &mut files) {
-            Ok((engine, from)) => {
-                let tick = engine.ended;
+        followed_files_are_sound::<D>();
+        let Start {
+            mut engine,
+            words: _,
+            from,
+        } = recover_world(alloc, files)?;
+        match engine.start() {
+            Ok(()) => {
+                let tick = engine.ended();
                 let state = SerialState {
                     engine,
-                    files,
                     every,
                     acked: tick,
                     recovered: (tick, from),
                 };
                 Ok(SerialWorld { state })
             }
-            Err(refusal) => Err((files, refusal)),
+            Err(refusal) => Err((engine.into_files(), refusal)),
         }
     }
 
@@ -95,22 +98,22 @@ impl<C: Capture, D: Disk> SerialWorld<C, D> {
 
     /// The number of cells. Cells are numbered from 0.
     pub fn cells(&self) -> usize
-        ensures { result ≡ length (C.content self.now.engine.store).live }
+        ensures { result ≡ length self.now.engine.content.live }
     {
-        self.state.engine.store.len()
+        self.state.engine.cells()
     }
 
     /// The word of a cell, between two batches. It makes no tick and no call of a device. After
     /// `LogDown` the word may be that of a tick that isn't durable.
     pub fn read(&mut self, cell: u32) -> Result<u64, Refusal>
-        ensures inside { IfOk result (λ _. cell < length (C.content self.old.engine.store).live) }
+        ensures inside { IfOk result (λ _. cell < length self.old.engine.content.live) }
         ensures word { IfOk result (λ word. word
-            ≡ slice_index (C.content self.old.engine.store).live cell) }
+            ≡ slice_index self.old.engine.content.live cell) }
         ensures outside { IfErr result (λ refusal. (refusal ≡ Refusal.BadCell)
-            × (length (C.content self.old.engine.store).live ≤ cell)) }
-        ensures same { IsSameWorld C.content D.content D.may_leave D.honest self.old self.new }
+            × (length self.old.engine.content.live ≤ cell)) }
+        ensures same { self.new ≡ self.old }
     {
-        read_word(&mut self.state.engine.store, cell)
+        self.state.engine.read(cell)
     }
 
     /// Plays a batch as one tick. Returns the number of the tick once it is acknowledged. The
@@ -118,12 +121,12 @@ impl<C: Capture, D: Disk> SerialWorld<C, D> {
     /// refused, there are none.
     pub fn play(&mut self, b: &Batch, answers: &mut Vec<Answer>) -> Result<u64, Refusal>
         ensures acknowledged { IfOk result (λ _.
-            Acknowledged C.content D.content D.may_leave D.honest self.old b.now.list self.new) }
+            Acknowledged D.content D.may_leave D.honest self.old b.now.list self.new) }
         ensures answers { OnOk result (answers.new.items
-            ≡ answers_of b.now.list (C.content self.old.engine.store).live) }
+            ≡ answers_of b.now.list self.old.engine.content.live) }
         ensures tick { IfOk result (λ tick. tick ≡ self.new.acked) }
         ensures refused { IfErr result (λ refusal.
-            IsRefusedBatch C.content D.content D.may_leave D.honest self.old
+            IsRefusedBatch D.content D.may_leave D.honest self.old
             b.now.list refusal self.new) }
         ensures none { OnErr result (answers.new.items ≡ []) }
     {
@@ -139,62 +142,60 @@ impl<C: Capture, D: Disk> SerialWorld<C, D> {
     /// Takes the world apart. If memory runs out, it gives the files back with `NoMemory`.
     pub fn into_parts(self) -> Result<Parts<D>, (FourFiles<D>, Refusal)>
         ensures words { IfOk result (λ parts. parts.words.items
-            ≡ (C.content self.engine.store).live) }
+            ≡ self.engine.content.live) }
         ensures images { IfOk result (λ parts. parts.images ≡ self.engine.images) }
         ensures log { IfOk result (λ parts. parts.log ≡ self.engine.log) }
-        ensures files { IfOk result (λ parts. parts.files ≡ self.files) }
+        ensures files { IfOk result (λ parts. parts.files ≡ self.engine.files) }
         ensures ticks { IfOk result (λ parts. (parts.ended ≡ self.engine.ended)
             × (parts.since ≡ self.engine.since)) }
         ensures none_queued { IfOk result (λ parts. parts.log.down ≡ false
-            → self.engine.queue.items ≡ []) }
+            → self.engine.queue ≡ []) }
         ensures rest { IfOk result (AreAtRest D.content D.honest) }
         ensures settled { IfOk result (λ parts. parts.log.down ≡ false
             → parts.images.phase ≡ Idle → parts.since ≡ 0
             → (first : List ℕ) (ticks : List (List Action))
-            → Serves C.content D.content D.may_leave D.honest self first ticks
+            → Serves D.content D.may_leave D.honest self first ticks
             → AreSettled D.content D.may_leave parts first ticks) }
-        ensures refused { IfErr result (λ refused. (refused.0 ≡ self.files)
+        ensures refused { IfErr result (λ refused. (refused.0 ≡ self.engine.files)
             × (refused.1 ≡ Refusal.NoMemory)) }
     {
         let SerialWorld { state } = self;
         let SerialState {
             mut engine,
-            files,
             every: _,
             acked: _,
             recovered: _,
         } = state;
-        match words_of(engine.alloc, &mut engine.store) {
-            Ok(words) => Ok(engine.into_parts(words, files)),
-            Err(refusal) => Err((files, refusal)),
+        match engine.words() {
+            Ok(words) => Ok(engine.into_parts(words)),
+            Err(refusal) => Err((engine.into_files(), refusal)),
         }
     }
 
     /// Gives the files back. Nothing of them is unsynced, unless a keeper is down.
     pub fn into_files(self) -> FourFiles<D>
-        ensures files { result ≡ self.files }
+        ensures files { result ≡ self.engine.files }
         ensures synced { IsTrue D.honest → self.engine.log.down ≡ false
             → self.engine.images.phase ≡ Idle
             → (first : List ℕ) (ticks : List (List Action))
-            → Serves C.content D.content D.may_leave D.honest self first ticks
+            → Serves D.content D.may_leave D.honest self first ticks
             → AreSynced D.content D.may_leave result }
     {
         images_stay::<D>();
         log_outcomes::<D>();
         let SerialWorld { state } = self;
         let SerialState {
-            engine: _,
-            files,
+            engine,
             every: _,
             acked: _,
             recovered: _,
         } = state;
-        files
+        engine.into_files()
     }
 }
 
 impl<C: Capture, D: Disk> World for SerialWorld<C, D> {
-    ghost runs = { Runs C.content D.content D.may_leave D.honest };
+    ghost runs = { Runs D.content D.may_leave D.honest };
 
     fn batch(&mut self, b: &Batch, text: &mut Vec<u8>) -> Result<(), Refusal> {
         self.state.batch(b, text)?;

@@ -1,5 +1,6 @@
 use capture_core::{Capture, PlainCopy};
 use disk_model::{FourFiles, ModelFile};
+use engine::Parts;
 use ping_pong::PingPong;
 use refused::{
     try_closed_files, try_created_again, try_damaged_files, try_made_files, try_open_files,
@@ -10,7 +11,6 @@ use std::process::Abort;
 use streams::{FIRST_ANSWER, INPUT, TEXT, WHOLE, try_broken};
 use typed::{try_last, try_lost, try_typed};
 use world_actions::Refusal;
-use world_start::Parts;
 use worlds::{
     Case, IMAGE, NONE, Session, created, files_of, fresh, long_batch, open, play, reported, stands,
     try_case, try_new,

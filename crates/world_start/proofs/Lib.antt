@@ -1,10 +1,5 @@
-pub mod Beginning
 pub mod Carried
 pub mod Faults
-pub mod Following
-pub mod LogRuns
 pub mod Made
 pub mod NewWorld
 pub mod Recovered
-pub mod Rounds
-pub mod Sound

@@ -1,26 +1,28 @@
 -- The files of a new world are made.
 use Rattle.std.proofs.lemmas.List.{length-replicate}
-use Rattle.std.proofs.Common.{◌≡◌, ◌≤◌, ◌⊎◌, ℕ, false, inl, inr, List, [], ◌∷◌, length, replicate, None, Result, Ok, Err, refl, sym, ap, subst, ◌∙◌, arith}
+use Rattle.std.proofs.Common.{◌≡◌, ◌≤◌, ◌⊎◌, ℕ, Bool, false, inl, inr, List, [], ◌∷◌, length, replicate, None, Result, Ok, Err, refl, sym, ap, subst, ◌∙◌, arith}
 use Rattle.std.specs.Prelude.{IfOk, IfErr, OnOk}
 use Rattle.world_actions.specs.declared.refusal.Refusal.{Refusal}
 use Rattle.world_actions.specs.declared.refusal.Refusal.TheVariants.{Device, NotEmpty}
 use Rattle.world_actions.specs.declared.world.TheConstants.{CELLS}
-use Rattle.capture_core.specs.Content.{Content}
 use Rattle.disk_model.specs.FourFiles.{EachFile, KeepsFile}
 use Rattle.disk_model.specs.declared.four_files.FourFiles.{FourFiles}
 use Rattle.image_files.specs.Images.{ImageFiles, NoneYet, Newest}
 use Rattle.action_log.specs.declared.progress.Progress.{Progress as LogProgress}
-use Rattle.action_log.specs.Segment.{ClosedSegment}
+use Rattle.image_files.specs.Image.{image_of}
+use Rattle.action_log.specs.Segment.{ClosedSegment, IsSegment}
 use Rattle.recovery.specs.Sound.{IsSound, IsFresh}
-use Rattle.restart.specs.InStep.{WorldsGoOn, IsSafe}
-use Rattle.world_start.specs.declared.engine.Engine.{Engine}
-use Rattle.world_start.specs.Steps.{Begins, StartLaws, IsBegunFresh}
-use Rattle.world_start.specs.Engine.{Follows}
-use Rattle.world_start.specs.Opening.{AreRead, AreSynced}
-use Rattle.world_start.specs.Fresh.{AreClosed, AreNotMade}
-use Rattle.world_start.proofs.Beginning.{start_follows}
+use Rattle.restart.specs.InStep.{IsSafe}
+use Rattle.engine.specs.World.{World}
+use Rattle.engine.specs.Follows.{Follows}
+use Rattle.engine.specs.Begins.{AreGates, Begins}
+use Rattle.engine.specs.Laws.{EventLaws, KeeperLaws}
+use Rattle.world_start.specs.Steps.{IsBegunFresh}
+use Rattle.world_start.specs.Opening.{AreSynced}
+use Rattle.world_start.specs.Fresh.{FilesAreClosed, AreNotMade}
+use Rattle.engine.proofs.Beginning.{begins_follow}
+use Rattle.engine.proofs.Sound.{fewer_sound, follows_safe}
 use Rattle.world_start.proofs.Recovered.{synced_on}
-use Rattle.world_start.proofs.Sound.{fewer_sound}
 
 -- a fact on a result follows from another one
 pub if_ok : {T : Type 0} (r : Result T Refusal) (P Q : T → Type 0) → ((value : T) → P value → Q value) → IfOk r P → IfOk r Q
@@ -40,39 +42,29 @@ pub if_refused : {T : Type 0} (r : Result T Refusal) (P Q : Refusal → Type 0) 
 if_refused (Ok value) P Q f h = tt
 if_refused (Err refusal) P Q f h = f refusal h
 
-module _ {C D : Type 0} (content : C → Content) (file : D → List ℕ) (leaves : D → List ℕ → Type 0) where
-  pub fresh_begun : StartLaws file leaves → WorldsGoOn → (files left : FourFiles D) → EachFile files left (KeepsFile file leaves)
-      → (ia ib la lb : List ℕ) → AreRead file files ia ib la lb → AreClosed ia ib la lb → (cells : ℕ) → 1 ≤ cells → cells ≤ CELLS → (words : List ℕ) → words ≡ replicate cells 0
-      → (engine : Engine C) → Begins content cells None 0 words ia ib la lb engine → IsBegunFresh content file leaves files cells engine left
-  fresh_begun laws begins files left kept ia ib la lb read closed cells some few words zeros engine b =
-      let there = closed_on read.image_a_is read.image_b_is read.log_a_is read.log_b_is closed in
-      let here = closed_on (sym kept.image_a.same_content) (sym kept.image_b.same_content) (sym kept.log_a.same_content) (sym kept.log_b.same_content) there in
-      let named = subst (λ w. Begins content cells None 0 w ia ib la lb engine) zeros b in
-      let begun = begins_on (read.image_a_is ∙ sym kept.image_a.same_content) (read.image_b_is ∙ sym kept.image_b.same_content)
-      (read.log_a_is ∙ sym kept.log_a.same_content) (read.log_b_is ∙ sym kept.log_b.same_content) cells (replicate cells 0) engine named in
+module _ {D : Type 0} (file : D → List ℕ) (leaves : D → List ℕ → Type 0) where
+  pub fresh_begun : EventLaws → KeeperLaws file leaves → (files left : FourFiles D) → EachFile files left (KeepsFile file leaves) → FilesAreClosed file files → (cells : ℕ) → 1 ≤ cells → cells ≤ CELLS
+      → (words : List ℕ) → words ≡ replicate cells 0 → (shut : FourFiles Bool) → AreGates file left shut → (world : World D)
+      → Begins None 0 words shut left world → IsBegunFresh file leaves files cells world
+  fresh_begun events keepers files left kept closed cells some few words zeros shut gates world b =
+      let first : List ℕ = replicate cells 0 in
+      let all : length first ≡ cells = length-replicate cells 0 in
+      let begun = subst (λ w. Begins None 0 w shut left world) zeros b in
       record {
-        closed = there;
+        closed = closed;
         ended = b.ended;
         since = b.since;
         starting = ap (λ (k : LogProgress). k.starting) b.log;
         queue = b.queue;
         follows = λ synced.
-            (let s = synced_on content file leaves files left kept synced in
-            start_follows content file leaves false laws cells (replicate cells 0) (length-replicate cells 0) None 0
-            (replicate cells 0) engine left begun some few (omega arith) s.image_a s.image_b s.log_a s.log_b
-            (NoneYet (record { round = None })) (refl, refl, here.image_a_closed, here.image_b_closed) ClosedSegment ClosedSegment here.log_a_closed here.log_b_closed
-            [] 0 (begins.fresh (replicate cells 0) (content engine.store) (omega (arith, some, length-replicate {A = ℕ} cells 0)) begun.store) refl refl);
+            (let s = synced_on file leaves files left kept synced in
+            (begins_follow file leaves keepers first None 0 first shut left world begun refl (omega (arith, some, all)) (omega (arith, few, all)) (omega arith) gates s.image_a s.image_b s.log_a
+            s.log_b
+            (NoneYet (record { round = None }))
+            (refl, refl, ap image_of kept.image_a.same_content ∙ closed.image_a_closed, ap image_of kept.image_b.same_content ∙ closed.image_b_closed) ClosedSegment ClosedSegment
+            (subst (λ f. IsSegment f ClosedSegment) (sym kept.log_a.same_content) closed.log_a_closed) (subst (λ f. IsSegment f ClosedSegment) (sym kept.log_b.same_content) closed.log_b_closed)
+            [] 0 (events.goes_on.fresh first world.content (omega (arith, some, all)) begun.store) refl refl).follows);
       }
-    where
-      closed_on : {a b c d a2 b2 c2 d2 : List ℕ} → a ≡ a2 → b ≡ b2 → c ≡ c2 → d ≡ d2 → AreClosed a b c d → AreClosed a2 b2 c2 d2
-      closed_on {a} {b} {c} {d} {a2} {b2} {c2} {d2} ea eb ec ed e =
-          subst (λ f. AreClosed f b2 c2 d2) ea (subst (λ f. AreClosed a f c2 d2) eb (subst (λ f. AreClosed a b f d2) ec (subst (λ f. AreClosed a b c f) ed e)))
-
-      begins_on : {a b c d a2 b2 c2 d2 : List ℕ} → a ≡ a2 → b ≡ b2 → c ≡ c2 → d ≡ d2 → (cells : ℕ) (words : List ℕ) (engine : Engine C)
-          → Begins content cells None 0 words a b c d engine → Begins content cells None 0 words a2 b2 c2 d2 engine
-      begins_on {a} {b} {c} {d} {a2} {b2} {c2} {d2} ea eb ec ed cells words engine e =
-          subst (λ f. Begins content cells None 0 words f b2 c2 d2 engine) ea (subst (λ f. Begins content cells None 0 words a f c2 d2 engine) eb
-          (subst (λ f. Begins content cells None 0 words a b f d2 engine) ec (subst (λ f. Begins content cells None 0 words a b c f engine) ed e)))
 
 -- safe files of no ticks hold no world yet, or one at tick 0
 safe_fresh : (images : ImageFiles) (a b la lb : List ℕ → Type 0) (first : List ℕ) (count : ℕ) → IsSafe images a b la lb first [] count → IsFresh a b la lb first ⊎ IsSound a b la lb first [] 0
@@ -80,15 +72,13 @@ safe_fresh (NoneYet images) a b la lb first count s = inl s.0
 safe_fresh (Newest images) a b la lb first count s = inr (fewer_sound a b la lb first [] 0 count (omega arith) s)
 
 -- the files of a new world after a start that a device ended
-pub start_failed : {C D : Type 0} (content : C → Content) (file : D → List ℕ) (leaves : D → List ℕ → Type 0)
-    (files left : FourFiles D) (cells : ℕ) (last : Engine C) (refusal : Refusal) → refusal ≡ Device
-    → (AreSynced file leaves files → Follows content file leaves last left (replicate cells 0) [] 0)
-    → ((f : Follows content file leaves last left (replicate cells 0) [] 0)
-    → IsSafe f.images (leaves left.image_a) (leaves left.image_b) (leaves left.log_a) (leaves left.log_b) (replicate cells 0) [] f.count)
-    → AreNotMade file leaves files cells refusal left
-start_failed content file leaves files left cells last refusal is follows safe = record {
+pub start_failed : {D : Type 0} (file : D → List ℕ) (leaves : D → List ℕ → Type 0) → KeeperLaws file leaves → (files : FourFiles D) (cells : ℕ) (last : World D) (refusal : Refusal) → refusal ≡ Device
+    → (AreSynced file leaves files → Follows file leaves last (replicate cells 0) [] 0) → AreNotMade file leaves files cells refusal last.files
+start_failed file leaves laws files cells last refusal is follows = record {
   not_empty = λ other. absurd (let e : Device ≡ NotEmpty = sym is ∙ other in let h = e in cc);
   kept = λ other. absurd (other is);
   safe = λ synced closed.
-      (let f = follows synced in safe_fresh f.images (leaves left.image_a) (leaves left.image_b) (leaves left.log_a) (leaves left.log_b) (replicate cells 0) f.count (safe f));
+      (let f = follows synced in
+      safe_fresh f.images (leaves last.files.image_a) (leaves last.files.image_b) (leaves last.files.log_a) (leaves last.files.log_b) (replicate cells 0) f.count
+      (follows_safe file leaves laws last (replicate cells 0) [] 0 f));
 }

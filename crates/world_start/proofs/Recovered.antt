@@ -1,13 +1,13 @@
 -- The world in sound files is opened.
-use Rattle.std.proofs.Common.{◌≡◌, ◌≤◌, ℕ, false, nat_lt, List, [], length, take, Option, Some, None, Result, Ok, Err, inl, inr, refl, sym, ap, subst, ◌∙◌, arith}
-use Rattle.std.specs.Prelude.{IfErr, IsErrAnd}
+use Rattle.std.proofs.Common.{◌≡◌, ◌≤◌, ℕ, Bool, true, false, nat_lt, List, [], length, take, Option, Some, None, Result, Ok, Err, inl, inr, refl, sym, ap, subst, ◌∙◌, arith}
+use Rattle.std.specs.Prelude.{IsTrue, IfErr, IsErrAnd, ◌||◌, if◌then◌else◌}
 use Rattle.std.proofs.lemmas.List.{length-take-le}
 use Rattle.world_actions.specs.declared.action.Action.{Action}
 use Rattle.world_actions.specs.declared.refusal.Refusal.{Refusal}
+use Rattle.world_actions.specs.declared.refusal.Refusal.TheVariants.{Device, BadImage, BadLog}
 use Rattle.world_actions.specs.declared.world.TheConstants.{CELLS}
 use Rattle.world_actions.specs.World.{IsWorld}
 use Rattle.world_ticks.specs.declared.tick.TheConstants.{TICK_MAX}
-use Rattle.capture_core.specs.Content.{Content}
 use Rattle.disk_model.specs.FourFiles.{EachFile, KeepsFile}
 use Rattle.disk_model.specs.declared.four_files.FourFiles.{FourFiles}
 use Rattle.file_format.specs.declared.slot.Slot.{Slot}
@@ -16,18 +16,22 @@ use Rattle.image_files.specs.Images.{Newest}
 use Rattle.image_files.specs.Progress.{Progress as ImageProgress}
 use Rattle.image_files.specs.Files.{HoldsNewest}
 use Rattle.action_log.specs.Spellings.{ReadsOnce}
-use Rattle.recovery.specs.Recovery.{Recovery, Recovers, BothRead, recovery_of}
+use Rattle.action_log.specs.Segment.{Segment}
+use Rattle.recovery.specs.Recovery.{Recovery, Recovers, BothRead, Newest as NewestImage, is_bad_image, is_bad_segment, newest, tail, words_after, recovery_with, recovery_from, recovery_of}
+use Rattle.recovery.specs.Recovered.{recovery_of_answer}
+use Rattle.recovery.specs.declared.recovered.Recovered.{Recovered}
 use Rattle.recovery.specs.Sound.{IsFresh, IsSoundReading}
 use Rattle.recovery.specs.Restart.{CrashRestarts, Restarts, recovered_images}
-use Rattle.restart.specs.InStep.{WorldsGoOn}
-use Rattle.world_start.specs.declared.engine.Engine.{Engine}
-use Rattle.world_start.specs.Engine.{Follows}
-use Rattle.world_start.specs.Steps.{Begins, StartLaws}
-use Rattle.world_start.specs.Opening.{AreSynced, AreSound, AreOfWorld, AreRead, IsRead}
+use Rattle.engine.specs.World.{World}
+use Rattle.engine.specs.Follows.{Follows, AreSound}
+use Rattle.engine.specs.Begins.{AreGates, Begins}
+use Rattle.engine.specs.Laws.{EventLaws, KeeperLaws}
+use Rattle.world_start.specs.Steps.{IsFound}
+use Rattle.world_start.specs.Opening.{AreSynced, AreOfWorld, IsRead, RecoversFiles}
 use Rattle.image_files.proofs.SlotImages.{by_slot, by_other}
 use Rattle.world_start.proofs.NewWorld.{new_reading}
-use Rattle.world_start.proofs.Beginning.{start_follows, built_live, started_newest}
-use Rattle.world_start.proofs.Sound.{reading_of}
+use Rattle.engine.proofs.Beginning.{begins_follow, built_live, started_newest}
+use Rattle.engine.proofs.Sound.{reading_of}
 
 pub if_err : {T : Type 0} (r : Result T Refusal) (refusal : Refusal) (P : Refusal → Type 0) → IsErrAnd r (λ e. e ≡ refusal) → P refusal → IfErr r P
 if_err (Ok value) refusal P h p = tt
@@ -52,6 +56,34 @@ recovers_once once a b la lb first ticks acknowledged r read e =
     subst (λ x. recovery_of (image_of a) (image_of b) x read.b ≡ Ok r) (once la e.a read.a e.reads_a read.reads_a)
     (subst (λ y. recovery_of (image_of a) (image_of b) e.a y ≡ Ok r) (once lb e.b read.b e.reads_b read.reads_b) e.holds) in
     let same : Ok read.holds.recovery ≡ Ok r = sym read.holds.stands ∙ there in cc)
+
+-- ---- recovery refuses no bytes for a device
+
+not_replayed : (image : NewestImage) (ticks : List (List Action)) (r : Result (List ℕ) Refusal) → recovery_with image ticks r ≡ Err Device → ⊥
+not_replayed image ticks (Ok words) e = absurd (let h = e in cc)
+not_replayed image ticks (Err refusal) e = absurd (let h = e in cc)
+
+not_recovered : (found : Option NewestImage) (log_a log_b : Segment) → recovery_from found log_a log_b ≡ Err Device → ⊥
+not_recovered None log_a log_b e = absurd (let h = e in cc)
+not_recovered (Some image) log_a log_b e = not_replayed image (tail image.tick log_a log_b) (words_after image.words (tail image.tick log_a log_b)) e
+
+not_judged : (bad_image bad_log : Bool) (r : Result Recovery Refusal) → (r ≡ Err Device → ⊥) → (if bad_image then Err BadImage else (if bad_log then Err BadLog else r)) ≡ Err Device → ⊥
+not_judged true bad_log r not e = absurd (let h = e in cc)
+not_judged false true r not e = absurd (let h = e in cc)
+not_judged false false r not e = not e
+
+pub not_a_device : (ia ib la lb : List ℕ) → Recovers ia ib la lb (Err Device) → ⊥
+not_a_device ia ib la lb e =
+    not_judged (is_bad_image (image_of ia) || is_bad_image (image_of ib)) (is_bad_segment e.a || is_bad_segment e.b) (recovery_from (newest (image_of ia) (image_of ib)) e.a e.b)
+    (not_recovered (newest (image_of ia) (image_of ib)) e.a e.b) e.holds
+
+-- a recovery of the bytes that were read is one of the files
+pub found_recovers : {D : Type 0} (file : D → List ℕ) (honest : Bool) (files : FourFiles D) (found : Recovered) → IsFound file honest files found → IsTrue honest
+    → RecoversFiles file files (recovery_of_answer found)
+found_recovers file honest files found f sure =
+    let b = f.bytes in
+    let read = b.read sure in
+    recovers_on (Ok (recovery_of_answer found)) read.image_a_is read.image_b_is read.log_a_is read.log_b_is (subst (λ r. Recovers b.image_a b.image_b b.log_a b.log_b (Ok r)) f.is_found b.recovers)
 
 module _ {D : Type 0} (file : D → List ℕ) (leaves : D → List ℕ → Type 0) where
   -- files of a new world from which one is recovered are sound
@@ -93,7 +125,7 @@ module _ {D : Type 0} (file : D → List ℕ) (leaves : D → List ℕ → Type 
             record { a = s.a; b = s.b; reads_a = s.reads_a; reads_b = s.reads_b; holds = holds },
       )
 
-module _ {C D : Type 0} (content : C → Content) (file : D → List ℕ) (leaves : D → List ℕ → Type 0) where
+module _ {D : Type 0} (file : D → List ℕ) (leaves : D → List ℕ → Type 0) where
   -- files that were only read stay synced
   pub synced_on : (files left : FourFiles D) → EachFile files left (KeepsFile file leaves) → AreSynced file leaves files → AreSynced file leaves left
   synced_on files left kept s = record {
@@ -120,13 +152,12 @@ module _ {C D : Type 0} (content : C → Content) (file : D → List ℕ) (leave
   }
 
   -- the world in sound files begins a start in step with the recovered ticks
-  pub recovered_follows : StartLaws file leaves → ReadsOnce → CrashRestarts → WorldsGoOn → ((disk : D) → leaves disk (file disk))
-      → (r : Recovery) (engine : Engine C) (files : FourFiles D) → IsWorld r.words → r.tick ≤ TICK_MAX
-      → Recovers (file files.image_a) (file files.image_b) (file files.log_a) (file files.log_b) (Ok r)
-      → Begins content (length r.words) (Some (r.slot, r.from)) r.tick r.words (file files.image_a) (file files.image_b) (file files.log_a) (file files.log_b) engine
+  recovered_follows : EventLaws → KeeperLaws file leaves → ReadsOnce → CrashRestarts → ((disk : D) → leaves disk (file disk))
+      → (r : Recovery) (shut : FourFiles Bool) (files : FourFiles D) (world : World D) → IsWorld r.words → r.tick ≤ TICK_MAX → RecoversFiles file files r → AreGates file files shut
+      → Begins (Some (r.slot, r.from)) r.tick r.words shut files world
       → (first : List ℕ) (ticks : List (List Action)) (acknowledged : ℕ) → AreSynced file leaves files → AreSound file leaves files first ticks acknowledged
-      → Follows content file leaves engine files first (take r.tick ticks) acknowledged
-  recovered_follows laws once restarts begins stays r engine files world most e b first ticks acknowledged synced sound =
+      → Follows file leaves world first (take r.tick ticks) acknowledged
+  recovered_follows events keepers once restarts stays r shut files world is_world most e gates b first ticks acknowledged synced sound =
       let ia = file files.image_a in
       let ib = file files.image_b in
       let la = file files.log_a in
@@ -134,22 +165,19 @@ module _ {C D : Type 0} (content : C → Content) (file : D → List ℕ) (leave
       let read = sound ia ib la lb (stays files.image_a) (stays files.image_b) (stays files.log_a) (stays files.log_b) in
       let holds : IsSoundReading (image_of ia) (image_of ib) e.a e.b first ticks acknowledged =
       subst (λ x. IsSoundReading (image_of ia) (image_of ib) x e.b first ticks acknowledged) (once la read.a e.a read.reads_a e.reads_a)
-      (subst (λ x. IsSoundReading (image_of ia) (image_of ib) read.a x first ticks acknowledged) (once lb read.b e.b read.reads_b e.reads_b) read.holds) in
+      (subst (λ y. IsSoundReading (image_of ia) (image_of ib) read.a y first ticks acknowledged) (once lb read.b e.b read.reads_b e.reads_b) read.holds) in
       let s : Restarts first ticks acknowledged r (image_of ia) (image_of ib) e.a e.b = restarts.sound first ticks acknowledged (image_of ia) (image_of ib) e.a e.b r holds e.holds in
-      let some : 1 ≤ length first = omega (arith, s.whole, world.some) in
-      let few : length first ≤ CELLS = omega (arith, s.whole, world.most) in
-      let here = subst (λ n. Begins content n (Some (r.slot, r.from)) r.tick r.words ia ib la lb engine) s.whole b in
-      let step = begins.recovery first ticks acknowledged r (image_of ia) (image_of ib) e.a e.b (content engine.store) some s b.store in
+      let some : 1 ≤ length first = omega (arith, s.whole, is_world.some) in
+      let step = events.goes_on.recovery first ticks acknowledged r (image_of ia) (image_of ib) e.a e.b world.content some s b.store in
       let count : length (take r.tick ticks) ≡ r.tick = length-take-le r.tick ticks s.world.ended in
-      start_follows content file leaves false laws (length first) first refl (Some (r.slot, r.from)) r.tick r.words engine files
-      here some few most synced.image_a synced.image_b synced.log_a synced.log_b
-      (Newest (recovered_images r (image_of ia) (image_of ib))) (refl, refl, s.newest_whole, by_slot r.slot ia ib ∙ s.chosen, by_other r.slot ia ib)
-      e.a e.b e.reads_a e.reads_b (take r.tick ticks) acknowledged step s.world.words_are (sym count)
+      (begins_follow file leaves keepers first (Some (r.slot, r.from)) r.tick r.words shut files world b (sym s.whole) is_world.some is_world.most most gates
+      synced.image_a synced.image_b synced.log_a synced.log_b
+      (Newest (recovered_images r (image_of ia) (image_of ib))) (refl, refl, s.newest_whole ∙ sym s.whole, by_slot r.slot ia ib ∙ s.chosen, by_other r.slot ia ib)
+      e.a e.b e.reads_a e.reads_b (take r.tick ticks) acknowledged step s.world.words_are (sym count)).follows
 
   -- files that are only read before they are recovered
-  pub read_on : (files mid : FourFiles D) → EachFile files mid (KeepsFile file leaves) → (engine : Engine C) (from : ℕ) (left : FourFiles D)
-      → IsRead content file leaves mid engine from left → IsRead content file leaves files engine from left
-  read_on files mid kept engine from left read = record {
+  pub read_on : (files mid : FourFiles D) → EachFile files mid (KeepsFile file leaves) → (world : World D) (from : ℕ) → IsRead file leaves mid world from → IsRead file leaves files world from
+  read_on files mid kept world from read = record {
     matches = record {
       recovery = read.recovery;
       recovers = recovers_on (Ok read.recovery) kept.image_a.same_content kept.image_b.same_content kept.log_a.same_content kept.log_b.same_content read.recovers;
@@ -163,40 +191,20 @@ module _ {C D : Type 0} (content : C → Content) (file : D → List ℕ) (leave
   }
 
   -- the result of reading the files, recovering them and beginning the start
-  pub is_read : StartLaws file leaves → ReadsOnce → CrashRestarts → WorldsGoOn → ((disk : D) → leaves disk (file disk))
-      → (files left : FourFiles D) → EachFile files left (KeepsFile file leaves) → (ia ib la lb : List ℕ) → AreRead file files ia ib la lb
-      → (r : Recovery) (n from : ℕ) (words : List ℕ) (engine : Engine C) → IsWorld r.words → r.tick ≤ TICK_MAX → words ≡ r.words → n ≡ length r.words → from ≡ r.from
-      → Recovers ia ib la lb (Ok r) → Begins content n (Some (r.slot, r.from)) r.tick words ia ib la lb engine → IsRead content file leaves files engine from left
-  is_read laws once restarts begins stays files left kept ia ib la lb read r n from words engine world most is_words is_n is_from e b =
-      let there = recovers_on (Ok r) read.image_a_is read.image_b_is read.log_a_is read.log_b_is e in
+  pub is_read : EventLaws → KeeperLaws file leaves → ReadsOnce → CrashRestarts → ((disk : D) → leaves disk (file disk))
+      → (files left : FourFiles D) → EachFile files left (KeepsFile file leaves) → (r : Recovery) (shut : FourFiles Bool) (world : World D) → IsWorld r.words → r.tick ≤ TICK_MAX
+      → RecoversFiles file files r → AreGates file left shut → Begins (Some (r.slot, r.from)) r.tick r.words shut left world → IsRead file leaves files world r.from
+  is_read events keepers once restarts stays files left kept r shut world is_world most there gates b =
       let here = recovers_on (Ok r) (sym kept.image_a.same_content) (sym kept.image_b.same_content) (sym kept.log_a.same_content) (sym kept.log_b.same_content) there in
-      let named = subst (λ w. Begins content (length r.words) (Some (r.slot, r.from)) r.tick w ia ib la lb engine) is_words
-      (subst (λ m. Begins content m (Some (r.slot, r.from)) r.tick words ia ib la lb engine) is_n b) in
-      let begun = begins_on (length r.words) (Some (r.slot, r.from)) r.tick r.words engine
-      (read.image_a_is ∙ sym kept.image_a.same_content) (read.image_b_is ∙ sym kept.image_b.same_content)
-      (read.log_a_is ∙ sym kept.log_a.same_content) (read.log_b_is ∙ sym kept.log_b.same_content) named in
       record {
-        matches = record {
-          recovery = r;
-          recovers = there;
-          is_from = is_from;
-          words = built_live r.words (nat_lt r.from r.tick) (content engine.store) begun.store;
-          ended = begun.ended;
-          since = begun.since;
-        };
+        matches = record { recovery = r; recovers = there; is_from = refl; words = built_live r.words (nat_lt r.from r.tick) world.content b.store; ended = b.ended; since = b.since };
         newest =
             λ none.
-            (let e : Some (r.slot, r.from) ≡ None = sym (ap (λ (k : ImageProgress). k.newest) begun.images ∙ started_newest (nat_lt r.from r.tick) r.tick _) ∙ none in absurd (let h = e in cc));
+            (let e : Some (r.slot, r.from) ≡ None = sym (ap (λ (k : ImageProgress). k.newest) b.images ∙ started_newest (nat_lt r.from r.tick) r.tick _) ∙ none in absurd (let h = e in cc));
         follows = λ first ticks acknowledged w.
             let all = all_recovered file leaves once stays r files there first ticks acknowledged w.synced (world_sound file leaves once r files there first ticks acknowledged w) in (
               all.0,
-              recovered_follows laws once restarts begins stays r engine left world most here begun first ticks r.tick
+              recovered_follows events keepers once restarts stays r shut left world is_world most here gates b first ticks r.tick
                   (synced_on files left kept w.synced) (sound_on files left kept first ticks r.tick all.1),
             );
       }
-    where
-      begins_on : {a b c d a2 b2 c2 d2 : List ℕ} (cells : ℕ) (newest : Option (Slot × ℕ)) (tick : ℕ) (words : List ℕ) (engine : Engine C) → a ≡ a2 → b ≡ b2 → c ≡ c2 → d ≡ d2
-          → Begins content cells newest tick words a b c d engine → Begins content cells newest tick words a2 b2 c2 d2 engine
-      begins_on {a} {b} {c} {d} {a2} {b2} {c2} {d2} cells newest tick words engine ea eb ec ed e =
-          subst (λ f. Begins content cells newest tick words f b2 c2 d2 engine) ea (subst (λ f. Begins content cells newest tick words a f c2 d2 engine) eb
-          (subst (λ f. Begins content cells newest tick words a b f d2 engine) ec (subst (λ f. Begins content cells newest tick words a b c f engine) ed e)))

@@ -7,7 +7,8 @@ use Rattle.disk_model.specs.declared.four_files.FourFiles.{FourFiles}
 use Rattle.image_files.specs.Image.{Closed, image_of}
 use Rattle.action_log.specs.Segment.{ClosedSegment, OpenSegment, IsSegment}
 use Rattle.recovery.specs.Sound.{IsFresh}
-use Rattle.world_start.specs.Opening.{AreSynced, AreSound}
+use Rattle.engine.specs.Follows.{AreSound}
+use Rattle.world_start.specs.Opening.{AreSynced}
 
 -- four files that hold no world
 pub record AreClosed (image_a image_b log_a log_b : List ℕ) : Type 0 where

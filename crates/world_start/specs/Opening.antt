@@ -1,18 +1,17 @@
--- The result of recovering the files of a world, and the definition of sound files.
-use Rattle.std.specs.Prelude.{◌≡◌, ◌⊎◌, ◌<◌, ◌≤◌, ℕ, Bool, IsTrue, List, [], length, take}
-use Rattle.std.specs.Prelude.{slice_index, Ok, Err}
+-- The result of recovering the files of a world.
+use Rattle.std.specs.Prelude.{◌≡◌, ◌⊎◌, ◌≤◌, ℕ, Bool, IsTrue, List, [], take}
+use Rattle.std.specs.Prelude.{Ok, Err}
 use Rattle.world_actions.specs.declared.action.Action.{Action}
 use Rattle.world_actions.specs.declared.refusal.Refusal.{Refusal}
 use Rattle.world_actions.specs.declared.refusal.Refusal.TheVariants.{Device, NoMemory}
-use Rattle.capture_core.specs.Content.{Content}
-use Rattle.disk_model.specs.Disk.{Only, Grew}
+use Rattle.disk_model.specs.Disk.{Only}
 use Rattle.disk_model.specs.FourFiles.{fault_counts}
 use Rattle.disk_model.specs.declared.four_files.FourFiles.{FourFiles}
 use Rattle.recovery.specs.Recovery.{Recovery, Recovers}
-use Rattle.recovery.specs.Sound.{IsSound, IsFresh}
-use Rattle.world_start.specs.declared.engine.Engine.{Engine}
-use Rattle.world_start.specs.Running.{HasNewest}
-use Rattle.world_start.specs.Engine.{Follows}
+use Rattle.recovery.specs.Sound.{IsFresh}
+use Rattle.engine.specs.World.{World}
+use Rattle.engine.specs.Follows.{Follows, AreSound}
+use Rattle.engine.specs.Runs.{HasNewest, SomeGrew}
 
 -- ---- the files
 
@@ -24,21 +23,11 @@ module _ {D : Type 0} (file : D → List ℕ) (leaves : D → List ℕ → Type 
     pub log_a : Only (file files.log_a) (leaves files.log_a)
     pub log_b : Only (file files.log_b) (leaves files.log_b)
 
-  -- Whatever a crash leaves of the files, recovery gives the world after the first n of these ticks
-  -- from these first words, for some n not below the acknowledged count. Each open image is the
-  -- world after its tick.
-  abbrev pub AreSound : FourFiles D → (first : List ℕ) → List (List Action)
-      → (acknowledged : ℕ) → Type 0
-  AreSound files first ticks acknowledged =
-      IsSound (leaves files.image_a) (leaves files.image_b) (leaves files.log_a)
-      (leaves files.log_b) first ticks acknowledged
-
-module _ {D : Type 0} (file : D → List ℕ) (leaves : D → List ℕ → Type 0) where
   -- Nothing of the files is unsynced. They are sound for these ticks and this acknowledged count,
   -- or those of a new world, of which no tick has ended.
   pub record AreOfWorld (files : FourFiles D) (first : List ℕ) (ticks : List (List Action))
       (acknowledged : ℕ) : Type 0 where
-    pub synced : AreSynced file leaves files
+    pub synced : AreSynced files
     pub world : AreSound file leaves files first ticks acknowledged
         ⊎ (IsFresh (leaves files.image_a) (leaves files.image_b) (leaves files.log_a)
         (leaves files.log_b) first × (ticks ≡ []) × (acknowledged ≡ 0))
@@ -66,11 +55,6 @@ IsRefused file honest files refusal =
     ⊎ ((image_a image_b log_a log_b : List ℕ) × Recovers image_a image_b log_a log_b (Err refusal)
     × (IsTrue honest → AreRead file files image_a image_b log_a log_b)))
 
--- one of these counts of faults grew, except at its last value
-abbrev pub SomeGrew : List ℕ → List ℕ → Type 0
-SomeGrew old new =
-    (place : ℕ) × (place < length old) × Grew (slice_index old place) (slice_index new place)
-
 -- a refusal by a device comes only if the count of a file's faults grew
 abbrev pub HasFaulted : {D : Type 0} → (faults : D → ℕ)
     → (files left : FourFiles D) → Refusal → Type 0
@@ -89,37 +73,35 @@ pub record RecoversBytes {D : Type 0} (file : D → List ℕ) (honest : Bool)
   pub recovers : Recovers image_a image_b log_a log_b (Ok recovery)
   pub read : IsTrue honest → AreRead file files image_a image_b log_a log_b
 
--- the engine and these ticks agree with the recovery
-pub record IsRecovered {C D : Type 0} (content : C → Content) (file : D → List ℕ) (honest : Bool)
-    (files : FourFiles D) (engine : Engine C) (tick from : ℕ) : Type 0 where
+-- the world and these ticks agree with the recovery
+pub record IsRecovered {D : Type 0} (file : D → List ℕ) (honest : Bool) (files : FourFiles D)
+    (world : World D) (tick from : ℕ) : Type 0 where
   pub bytes : RecoversBytes file honest files
   pub open bytes use *
   pub tick_is : tick ≡ recovery.tick
   pub from_is : from ≡ recovery.from
-  pub words : (content engine.store).live ≡ recovery.words
-  pub ended : engine.ended ≡ recovery.tick
+  pub words : world.content.live ≡ recovery.words
+  pub ended : world.ended ≡ recovery.tick
 
--- the engine agrees with the recovery of the files, and no tick has ended since
-pub record MatchesRecovery {C D : Type 0} (content : C → Content) (file : D → List ℕ)
-    (files : FourFiles D) (engine : Engine C) (from : ℕ) : Type 0 where
+-- the world agrees with the recovery of the files, and no tick has ended since
+pub record MatchesRecovery {D : Type 0} (file : D → List ℕ) (files : FourFiles D)
+    (world : World D) (from : ℕ) : Type 0 where
   pub recovery : Recovery
   pub recovers : RecoversFiles file files recovery
   pub is_from : from ≡ recovery.from
-  pub words : (content engine.store).live ≡ recovery.words
-  pub ended : engine.ended ≡ recovery.tick
-  pub since : engine.since ≡ 0
+  pub words : world.content.live ≡ recovery.words
+  pub ended : world.ended ≡ recovery.tick
+  pub since : world.since ≡ 0
 
-module _ {C D : Type 0} (content : C → Content) (file : D → List ℕ)
-    (leaves : D → List ℕ → Type 0) where
-  -- The engine begins the start of the recovered world. If the files were those of a world, it
-  -- follows the recovered ones of its ticks. All acknowledged ticks are among these, and each of
-  -- these counts as acknowledged.
-  pub record IsRead (files : FourFiles D) (engine : Engine C) (from : ℕ)
-      (left : FourFiles D) : Type 0 where
-    pub matches : MatchesRecovery content file files engine from
+module _ {D : Type 0} (file : D → List ℕ) (leaves : D → List ℕ → Type 0) where
+  -- The world begins the start of the recovered one. If the files were those of a world, it follows
+  -- the recovered ones of its ticks. All acknowledged ticks are among these, and each of these
+  -- counts as acknowledged.
+  pub record IsRead (files : FourFiles D) (world : World D) (from : ℕ) : Type 0 where
+    pub matches : MatchesRecovery file files world from
     pub open matches use *
-    pub newest : HasNewest engine.images
+    pub newest : HasNewest world.images
     pub follows : (first : List ℕ) (ticks : List (List Action)) (acknowledged : ℕ)
         → AreOfWorld file leaves files first ticks acknowledged
         → (acknowledged ≤ recovery.tick)
-        × Follows content file leaves engine left first (take recovery.tick ticks) recovery.tick
+        × Follows file leaves world first (take recovery.tick ticks) recovery.tick
