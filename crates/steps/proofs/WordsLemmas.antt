@@ -15,10 +15,10 @@ use Rattle.steps.specs.OpenCore.{Leads}
 use Rattle.steps.proofs.TextLemmas.{words_first, words_more}
 
 -- a core answers the word of a cell that it has
-pub word_reported : (past : Past) (state : State) (cell : ℕ) (given : Answer) → IsCoreAt past state → given ≡ get_answer state.content.live cell → cell < state.cells
+pub word_reported : (past : Past) (state : State) (cell : ℕ) (given : Answer) → IsCoreAt past state → given ≡ get_answer state.content.live cell → cell < state.images.cells
     → given ≡ answer.Word (slice_index state.content.live cell)
 word_reported past state cell given stands exact below =
-    let all = stands.live.all in
+    let all = stands.order.cells in
     let inside : not (nat_lt cell (length state.content.live)) ≡ false = let few : cell < length state.content.live = omega (arith, all) in grind (arith, nat_tests) in
     exact ∙ ap (λ (outside : Bool). if outside then answer.Refused BadCell else answer.Word (slice_index state.content.live cell)) inside
 
@@ -31,7 +31,7 @@ pub record AreSaid (state : State) (before : List ℕ) (count : ℕ) (core : Sta
 
 -- the text of one cell
 abbrev pub IsWordOf : State → ℕ → List ℕ → Type 0
-IsWordOf state cell said = (past : Past) → IsCoreAt past state → cell < state.cells → said ≡ decimal (slice_index state.content.live cell)
+IsWordOf state cell said = (past : Past) → IsCoreAt past state → cell < state.images.cells → said ≡ decimal (slice_index state.content.live cell)
 
 pub first_said : (state core : State) (before after said : List ℕ) → core ≡ state → after ≡ before ++ said → IsWordOf state 0 said → AreSaid state before 1 core after
 first_said state core before after said same text word = record {
@@ -40,19 +40,19 @@ first_said state core before after said same text word = record {
   text = text;
   words = λ past stands.
       let some = stands.some_cells in
-      let all = stands.live.all in
+      let all = stands.order.cells in
       word past stands (omega (arith, some)) ∙ sym (words_first state.content.live (omega (arith, some, all)));
 }
 
 pub more_said : (state core next : State) (before after spaced last said : List ℕ) (count : ℕ) → AreSaid state before count core after → next ≡ core
-    → spaced ≡ after ++ 32 ∷ [] → last ≡ spaced ++ said → IsWordOf core count said → 0 < count → count < state.cells → AreSaid state before (count + 1) next last
+    → spaced ≡ after ++ 32 ∷ [] → last ≡ spaced ++ said → IsWordOf core count said → 0 < count → count < state.images.cells → AreSaid state before (count + 1) next last
 more_said state core next before after spaced last said count so_far same space text word some below = record {
   same = same ∙ so_far.same;
   said = so_far.said ++ (32 ∷ said);
   text = text ∙ (ap (λ t. t ++ said) (space ∙ ap (λ t. t ++ 32 ∷ []) so_far.text)
       ∙ (append_assoc (before ++ so_far.said) (32 ∷ []) said ∙ append_assoc before so_far.said (32 ∷ said)));
   words = λ past stands.
-      let all = stands.live.all in
+      let all = stands.order.cells in
       let here : IsWordOf state count said = subst (λ (s : State). IsWordOf s count said) so_far.same word in
       ap (λ w. so_far.said ++ (32 ∷ w)) (here past stands below)
       ∙ (ap (λ w. w ++ (32 ∷ decimal (slice_index state.content.live count))) (so_far.words past stands)
@@ -60,14 +60,14 @@ more_said state core next before after spaced last said count so_far same space 
 }
 
 -- all words
-pub all_said : (state core : State) (before after : List ℕ) (count : ℕ) → AreSaid state before count core after → state.cells ≤ count
+pub all_said : (state core : State) (before after : List ℕ) (count : ℕ) → AreSaid state before count core after → state.images.cells ≤ count
     → (said : List ℕ) × (after ≡ before ++ said) × Leads World state said core
 all_said state core before after count so_far all = (so_far.said, so_far.text, leads)
   where
     leads : Leads World state so_far.said core
     leads = record {
       on = λ past stands.
-          let length_is = stands.live.all in (
+          let length_is = stands.order.cells in (
             past,
             subst (IsCoreAt past) (sym so_far.same) stands,
             (

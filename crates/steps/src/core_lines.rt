@@ -92,7 +92,7 @@ fn push_words<C: Capture>(core: &mut Core<C>, text: &mut Vec<u8>) -> Result<(), 
 // Adds the word of a cell. A core has no other answer for a cell that it has.
 fn push_word<C: Capture>(core: &mut Core<C>, cell: u32, text: &mut Vec<u8>) -> Result<(), Refusal>
     ensures says { OnOk result ((said : List ℕ) × (text.new.items ≡ text.old.items ++ said)
-        × ((past : Past) → IsCoreAt past core.old → cell < core.old.cells
+        × ((past : Past) → IsCoreAt past core.old → cell < core.old.images.cells
         → said ≡ decimal (slice_index core.old.content.live cell))) }
     ensures same { core.new ≡ core.old }
     ensures memory { IfErr result (λ refusal. refusal ≡ Refusal.NoMemory) }

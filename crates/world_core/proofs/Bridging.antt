@@ -1,7 +1,5 @@
--- The statements of lower crates on their values, turned into statements on a core's state.
-use Rattle.std.proofs.Common.{◌≡◌, ◌↔◌, ◌<◌, ◌+◌, ◌++◌, min, true, false, Bool, ℕ, List, [], ◌∷◌, ◌⊎◌, inl, inr, Some, None, refl, sym, ap, subst, ◌∙◌, arith}
-use Rattle.world_actions.specs.declared.action.Action.{Action}
-use Rattle.capture_core.specs.Content.{Content, Takes}
+-- A step of a keeper whose files were armed, as one whose call is let fail by a fate.
+use Rattle.std.proofs.Common.{◌≡◌, ◌↔◌, ◌<◌, ◌+◌, ◌-◌, min, true, false, Bool, ℕ, List, [], ◌∷◌, ◌⊎◌, inl, inr, Some, None, refl, sym, ap, subst, ◌∙◌, arith}
 use Rattle.file_format.specs.declared.slot.Slot.{Slot}
 use Rattle.file_format.specs.declared.slot.Slot.TheVariants.{A, B}
 use Rattle.file_format.specs.Slot.{of_slot}
@@ -12,8 +10,7 @@ use Rattle.image_files.specs.declared.answer.ImageAnswer.{ImageAnswer}
 use Rattle.image_files.specs.declared.answer.ImageAnswer.TheVariants as image_answer
 use Rattle.image_files.specs.declared.phase.Phase.{Phase}
 use Rattle.image_files.specs.declared.phase.Phase.TheVariants.{Idle, Taking, Reading, Down}
-use Rattle.image_files.specs.Images.{ImageFiles, StepsImages}
-use Rattle.image_files.specs.Progress.{target_of, left_of, cells_taken, opened_keeper}
+use Rattle.image_files.specs.Progress.{target_of, left_of}
 use Rattle.image_files.specs.Steps.{IfOpened, OnWorking, CallsIn as ImageCallsIn, HasCause}
 use Rattle.action_log.specs.declared.phase.Phase.{Phase as LogPhase}
 use Rattle.action_log.specs.declared.phase.Phase.TheVariants as log_phase
@@ -23,19 +20,17 @@ use Rattle.action_log.specs.declared.record.Record.TheVariants as records
 use Rattle.action_log.specs.declared.progress.Progress.{Progress as LogProgress}
 use Rattle.action_log.specs.declared.answer.LogAnswer.{LogAnswer}
 use Rattle.action_log.specs.declared.answer.LogAnswer.TheVariants as log_answer
-use Rattle.action_log.specs.Progress.{QueueFollows, end_of, work_of, taken}
 use Rattle.action_log.specs.Calls.{CallsIn as LogCallsIn}
-use Rattle.action_log.specs.Logs.{LogPlace}
-use Rattle.action_log.specs.LogSteps.{JournalStep}
 use Rattle.world_core.specs.declared.moves.Fate.{Fate}
 use Rattle.world_core.specs.declared.moves.Fate.TheVariants as fate_
-use Rattle.world_core.specs.State.{File, State, ImagesIn, LogIn, failures, HasFailed}
-use Rattle.world_core.specs.Moving.{calls_before_failure, CallsBy, FailsBy, CallsNone, StepsImageKeeper, StepsLogKeeper}
-
--- a store that was only read, with the same running tick, leaves the state as it was
-pub only_read : (was now : State) (content : Content) (running : List Action) → content ≡ was.content → running ≡ was.running → was ≡ now
-    → record was { content = content; running = running } ≡ now
-only_read was now content running c r e = (λ i. record was { content = c i; running = r i }) ∙ e
+use Rattle.engine.specs.World.{IsInOrder}
+use Rattle.engine.specs.Fuses.{armed}
+use Rattle.engine.specs.Steps.{TakesImageStep, TakesLogStep}
+use Rattle.image_files.specs.Images.{ImageFiles}
+use Rattle.action_log.specs.Logs.{LogPlace}
+use Rattle.world_core.specs.State.{File, State, content_of, leaves_of, AreUnarmed, HasImages, HasLog, failures, HasFailed}
+use Rattle.world_core.specs.Moving.{is_failed, calls_before_failure, CallsBy, FailsBy, CallsNone, StepsImageKeeper, StepsLogKeeper}
+use Rattle.world_core.proofs.Imaging.{some_left}
 
 -- ---- a call that may be let fail
 
@@ -47,6 +42,10 @@ pub record IsMoved (fate : Fate) (file armed stepped new : File) : Type 0 where
   pub unarmed : file.left ≡ None
   pub armed_is : armed ≡ record file { left = calls_before_failure fate }
   pub new_is : new ≡ record stepped { left = None }
+
+arms : (fate : Fate) (file : File) → armed (is_failed fate) file ≡ record file { left = calls_before_failure fate }
+arms fate_.Done file = refl
+arms fate_.Failed file = refl
 
 module _ (fate : Fate) (file armed stepped new : File) (m : IsMoved fate file armed stepped new) where
   pub failures_before : failures armed ≡ failures file
@@ -90,7 +89,7 @@ OneCalledOnce one one' other other' = (CalledOnce called one one' × (other' ≡
 abbrev pub MayCall : (rests : Type 0) → (armed_a stepped_a armed_b stepped_b : File) → Type 0
 MayCall rests armed_a stepped_a armed_b stepped_b = (rests × (stepped_a ≡ armed_a) × (stepped_b ≡ armed_b)) ⊎ OneCalledOnce armed_a stepped_a armed_b stepped_b
 
-pub fails_by : (fate : Fate) (is_down rests : Type 0) (a armed_a stepped_a new_a b armed_b stepped_b new_b : File) → IsMoved fate a armed_a stepped_a new_a → IsMoved fate b armed_b stepped_b new_b
+fails_by : (fate : Fate) (is_down rests : Type 0) (a armed_a stepped_a new_a b armed_b stepped_b new_b : File) → IsMoved fate a armed_a stepped_a new_a → IsMoved fate b armed_b stepped_b new_b
     → MayCall rests armed_a stepped_a armed_b stepped_b → is_down ⊎ ((failures stepped_a ≡ failures armed_a) × (failures stepped_b ≡ failures armed_b)) → FailsBy fate is_down rests a b new_a new_b
 fails_by fate_.Done is_down rest a aa sa na b ab sb nb ma mb (inl (at_rest, none, same)) counts = (same_faults fate_.Done a aa sa na ma none, same_faults fate_.Done b ab sb nb mb same)
 fails_by fate_.Done is_down rest a aa sa na b ab sb nb ma mb (inr (inl (call, same))) counts =
@@ -130,7 +129,7 @@ called_by fate_.Failed file armed stepped new m c =
     (c.0, c.1, (failed.0, fails_on fate_.Failed c.0 file armed stepped new m failed.1))
 
 -- a failure between the armed file and the one after the step is a failure of the move
-pub has_failed : (fate : Fate) (a armed_a stepped_a new_a b armed_b stepped_b new_b : File) → IsMoved fate a armed_a stepped_a new_a → IsMoved fate b armed_b stepped_b new_b
+has_failed : (fate : Fate) (a armed_a stepped_a new_a b armed_b stepped_b new_b : File) → IsMoved fate a armed_a stepped_a new_a → IsMoved fate b armed_b stepped_b new_b
     → Grew (failures armed_a) (failures stepped_a) ⊎ Grew (failures armed_b) (failures stepped_b) → HasFailed a new_a b new_b
 has_failed fate a aa sa na b ab sb nb ma mb (inl g) = inl (failures_after fate a aa sa na ma ∙ g ∙ ap (λ n. min (n + 1) last_count) (failures_before fate a aa sa na ma))
 has_failed fate a aa sa na b ab sb nb ma mb (inr g) = inr (failures_after fate b ab sb nb mb ∙ g ∙ ap (λ n. min (n + 1) last_count) (failures_before fate b ab sb nb mb))
@@ -192,13 +191,6 @@ module _ (fate : Fate) (t at st nt n an sn nn : File) (mt : IsMoved fate t at st
   log_called phase queue c = second_called c
 
 module _ (fate : Fate) (a aa sa na b ab sb nb : File) (ma : IsMoved fate a aa sa na) (mb : IsMoved fate b ab sb nb) where
-  -- the move does to the content of the files what the step does to the content of the armed files
-  moved_step : {Next : Type 0} (Held : FileState → FileState → Type 0) (Holds : Next → FileState → FileState → Type 0) (Step : Next → Type 0)
-      → (Held aa.inner ab.inner → (next : Next) × Holds next sa.inner sb.inner × Step next) → Held a.inner b.inner → (next : Next) × Holds next na.inner nb.inner × Step next
-  moved_step Held Holds Step step has =
-      let n = step (subst (λ (f : File). Held f.inner ab.inner) (sym ma.armed_is) (subst (λ (f : File). Held a.inner f.inner) (sym mb.armed_is) has)) in
-      (n.0, subst (λ (f : File). Holds n.0 f.inner nb.inner) (sym ma.new_is) (subst (λ (f : File). Holds n.0 sa.inner f.inner) (sym mb.new_is) n.1), n.2)
-
   images_called_at : (slot : Slot) (phase : Phase) → ImageCallsIn phase called (of_slot slot aa ab) (of_slot slot sa sb) (of_slot slot ab aa) (of_slot slot sb sa)
       → ImageCallsIn phase (CallsBy fate) (of_slot slot a b) (of_slot slot na nb) (of_slot slot b a) (of_slot slot nb na)
   images_called_at A phase c = images_called fate a aa sa na b ab sb nb ma mb phase c
@@ -209,71 +201,81 @@ module _ (fate : Fate) (a aa sa na b ab sb nb : File) (ma : IsMoved fate a aa sa
   log_called_at A phase queue c = log_called fate a aa sa na b ab sb nb ma mb phase queue c
   log_called_at B phase queue c = log_called fate b ab sb nb a aa sa na mb ma phase queue c
 
-pub image_counts : (given : ImageAnswer) (was : Phase) (a new_a b new_b : ℕ) → HasCause given was a new_a b new_b → (given ≡ image_answer.Down) ⊎ ((new_a ≡ a) × (new_b ≡ b))
+image_counts : (given : ImageAnswer) (was : Phase) (a new_a b new_b : ℕ) → HasCause given was a new_a b new_b → (given ≡ image_answer.Down) ⊎ ((new_a ≡ a) × (new_b ≡ b))
 image_counts image_answer.Idle was a na b nb h = inr h
 image_counts image_answer.Working was a na b nb h = inr h
 image_counts (image_answer.Opened tick) was a na b nb h = inr h
 image_counts image_answer.Down was a na b nb h = inl refl
 
-pub image_cause : (given : ImageAnswer) (was : Phase) (a new_a b new_b : ℕ) → HasCause given was a new_a b new_b → given ≡ image_answer.Down → (was ≡ Down) ⊎ (Grew a new_a ⊎ Grew b new_b)
+image_cause : (given : ImageAnswer) (was : Phase) (a new_a b new_b : ℕ) → HasCause given was a new_a b new_b → given ≡ image_answer.Down → (was ≡ Down) ⊎ (Grew a new_a ⊎ Grew b new_b)
 image_cause image_answer.Idle was a na b nb h e = absurd (let g = e in cc)
 image_cause image_answer.Working was a na b nb h e = absurd (let g = e in cc)
 image_cause (image_answer.Opened tick) was a na b nb h e = absurd (let g = e in cc)
 image_cause image_answer.Down was a na b nb h e = h
 
--- a fact on a step that answers Working follows from another one
-pub on_working : (given : ImageAnswer) {P Q : Type 0} → (P → Q) → OnWorking given P → OnWorking given Q
-on_working image_answer.Idle f h = tt
-on_working image_answer.Working f h = f h
-on_working (image_answer.Opened tick) f h = tt
-on_working image_answer.Down f h = tt
-
-pub when_opened : (given : ImageAnswer) (P Q : Type 0) → IfOpened given P Q → IfOpened given P (Unit {0})
+when_opened : (given : ImageAnswer) (P Q : Type 0) → IfOpened given P Q → IfOpened given P (Unit {0})
 when_opened image_answer.Idle P Q h = tt
 when_opened image_answer.Working P Q h = tt
 when_opened (image_answer.Opened tick) P Q h = h
 when_opened image_answer.Down P Q h = tt
 
--- a step of the keeper between two armed files
-pub record StepsArmedImages (was : State) (armed_a armed_b : File) (given : ImageAnswer) (stepped_a stepped_b : File) (new : State) : Type 0 where
-  pub rest : new ≡ record was { content = new.content; images = new.images; image_a = new.image_a; image_b = new.image_b }
-  pub stands : (images : ImageFiles) → ImagesIn was.images images armed_a.inner armed_b.inner
-      → (next : ImageFiles) × ImagesIn new.images next stepped_a.inner stepped_b.inner × StepsImages Takes was.images.cells images given next was.content new.content
-  pub cells : new.images.cells ≡ was.images.cells
-  pub idle : (given ≡ image_answer.Idle) ↔ (was.images.phase ≡ Idle)
-  pub down : (given ≡ image_answer.Down) ↔ (new.images.phase ≡ Down)
-  pub rests_down : was.images.phase ≡ Down → new.images.phase ≡ Down
-  pub cause : HasCause given was.images.phase (failures armed_a) (failures stepped_a) (failures armed_b) (failures stepped_b)
-  pub calls : ImageCallsIn was.images.phase called (of_slot (target_of was.images.newest) armed_a armed_b) (of_slot (target_of was.images.newest) stepped_a stepped_b)
-      (of_slot (target_of was.images.newest) armed_b armed_a) (of_slot (target_of was.images.newest) stepped_b stepped_a)
-  pub working : OnWorking given ((left_of new.images < left_of was.images) ⊎ ((cells_taken was.images < was.images.cells) × Takes was.content None new.content))
-  pub opened : IfOpened given (new.images ≡ opened_keeper was.images) (Unit {0})
+less_left : (given : ImageAnswer) (was new : State) → (given ≡ image_answer.Idle) ↔ (was.images.phase ≡ Idle) → (was.images.phase ≡ Down → given ≡ image_answer.Down)
+    → (0 < left_of was.images → left_of new.images < left_of was.images) → OnWorking given (left_of new.images < left_of was.images)
+less_left image_answer.Idle was new idle down lowers = tt
+less_left image_answer.Working was new idle down lowers =
+    lowers (some_left was.images.phase was.images (λ e. (let g = idle.1 e in absurd (let h = g in cc))) (λ e. (let g = down e in absurd (let h = g in cc))))
+less_left (image_answer.Opened tick) was new idle down lowers = tt
+less_left image_answer.Down was new idle down lowers = tt
 
-pub image_step_at : (fate : Fate) (was old new : State) (given : ImageAnswer) (armed_a armed_b stepped_a stepped_b : File) → was ≡ old
-    → IsMoved fate was.image_a armed_a stepped_a new.image_a → IsMoved fate was.image_b armed_b stepped_b new.image_b
-    → StepsArmedImages was armed_a armed_b given stepped_a stepped_b new → StepsImageKeeper fate old given new
-image_step_at fate was old new given aa ab sa sb e ma mb s =
+images_armed : (fails : Bool) (was : State) (images : ImageFiles) → HasImages was images
+    → HasImages (record was { files = record was.files { image_a = armed fails was.files.image_a; image_b = armed fails was.files.image_b } }) images
+images_armed true was images h = h
+images_armed false was images h = h
+
+log_armed : (fails : Bool) (was : State) (place : LogPlace) → HasLog was place
+    → HasLog (record was { files = record was.files { log_a = armed fails was.files.log_a; log_b = armed fails was.files.log_b } }) place
+log_armed true was place h = h
+log_armed false was place h = h
+
+-- the files are armed, the keeper makes its step, and they are disarmed
+image_step_at : (fate : Fate) (was old : State) (given : ImageAnswer) (ready stepped new : State) → was ≡ old → AreUnarmed was.files
+    → ready ≡ record was { files = record was.files { image_a = armed (is_failed fate) was.files.image_a; image_b = armed (is_failed fate) was.files.image_b } }
+    → TakesImageStep content_of leaves_of true failures called ready given stepped
+    → new ≡ record stepped { files = record stepped.files { image_a = armed false stepped.files.image_a; image_b = armed false stepped.files.image_b } }
+    → StepsImageKeeper fate old given new
+image_step_at fate was old given ready stepped new e unarmed arm step disarm =
+    let aa = armed (is_failed fate) was.files.image_a in
+    let ab = armed (is_failed fate) was.files.image_b in
+    let at : State = record was { files = record was.files { image_a = aa; image_b = ab } } in
+    let sa = stepped.files.image_a in
+    let sb = stepped.files.image_b in
+    let na = armed false sa in
+    let nb = armed false sb in
+    let last : State = record stepped { files = record stepped.files { image_a = na; image_b = nb } } in
+    let s = subst (λ w. TakesImageStep content_of leaves_of true failures called w given stepped) arm step in
+    let ma : IsMoved fate was.files.image_a aa sa na = record { unarmed = unarmed.image_a; armed_is = arms fate was.files.image_a; new_is = refl } in
+    let mb : IsMoved fate was.files.image_b ab sb nb = record { unarmed = unarmed.image_b; armed_is = arms fate was.files.image_b; new_is = refl } in
     let phase = was.images.phase in
     let called_in = by_slot phase (target_of was.images.newest) aa sa ab sb s.calls in
     let may = may_call phase aa sa ab sb called_in in
-    subst (λ o. StepsImageKeeper fate o given new) e (record {
-      rest = s.rest;
-      stands = λ images. moved_step fate was.image_a aa sa new.image_a was.image_b ab sb new.image_b ma mb (ImagesIn was.images images) (ImagesIn new.images)
-          (λ next. StepsImages Takes was.images.cells images given next was.content new.content) (s.stands images);
+    let is : StepsImageKeeper fate was given last = record {
+      rest = λ i. record (s.rest i) { files = record (s.rest i).files { image_a = na; image_b = nb } };
+      stands = λ images h. s.stands refl images (images_armed (is_failed fate) was images h);
       cells = s.cells;
       idle = s.idle;
       down = s.down;
-      stays_down = λ h. s.down.1 (s.rests_down h);
-      cause = λ h. elim (image_cause given was.images.phase (failures aa) (failures sa) (failures ab) (failures sb) s.cause h) [
+      stays_down = s.stays_down;
+      cause = λ h. elim (image_cause given phase (failures aa) (failures sa) (failures ab) (failures sb) s.cause h) [
         | inl d ↦ inl d
-        | inr g ↦ inr (has_failed fate was.image_a aa sa new.image_a was.image_b ab sb new.image_b ma mb g)
+        | inr g ↦ inr (has_failed fate was.files.image_a aa sa na was.files.image_b ab sb nb ma mb g)
       ];
-      fails = fails_by fate (given ≡ image_answer.Down) (CallsNone phase) was.image_a aa sa new.image_a was.image_b ab sb new.image_b ma mb may
-          (image_counts given was.images.phase (failures aa) (failures sa) (failures ab) (failures sb) s.cause);
-      calls = images_called_at fate was.image_a aa sa new.image_a was.image_b ab sb new.image_b ma mb (target_of was.images.newest) phase s.calls;
-      working = s.working;
-      opened = s.opened;
-    })
+      fails = fails_by fate (given ≡ image_answer.Down) (CallsNone phase) was.files.image_a aa sa na was.files.image_b ab sb nb ma mb may
+          (image_counts given phase (failures aa) (failures sa) (failures ab) (failures sb) s.cause);
+      calls = images_called_at fate was.files.image_a aa sa na was.files.image_b ab sb nb ma mb (target_of was.images.newest) phase s.calls;
+      working = less_left given was stepped s.idle s.stays_down s.lowers;
+      opened = when_opened given _ _ s.ended;
+    } in
+    subst (λ o. StepsImageKeeper fate o given new) e (subst (λ n. StepsImageKeeper fate was given n) (sym disarm) is)
 
 -- ---- the log keeper
 
@@ -281,23 +283,6 @@ log_counts : (given : LogAnswer) (down : Bool) (a new_a b new_b : ℕ) → (give
     → (down ≡ false → (new_a ≡ a) × (new_b ≡ b)) → (given ≡ log_answer.Down) ⊎ ((new_a ≡ a) × (new_b ≡ b))
 log_counts given true a na b nb is same = inl (is.1 refl)
 log_counts given false a na b nb is same = inr (same refl)
-
-pub record StepsArmedLog (was : State) (armed_a armed_b : File) (given : LogAnswer) (stepped_a stepped_b : File) (new : State) : Type 0 where
-  pub rest : new ≡ record was { queue = new.queue; log = new.log; log_a = new.log_a; log_b = new.log_b }
-  pub front : was.queue ≡ taken was.log was.queue ++ new.queue
-  pub stands : (place : LogPlace) → LogIn was.log place armed_a.inner armed_b.inner
-      → (next : LogPlace) × LogIn new.log next stepped_a.inner stepped_b.inner × JournalStep place was.queue given next new.queue
-  pub follows : QueueFollows new.log new.queue
-  pub end : end_of new.log new.queue ≡ end_of was.log was.queue
-  pub idle : (given ≡ log_answer.Idle) ↔ ((was.log.down ≡ false) × (was.log.phase ≡ Ready) × (was.queue ≡ []))
-  pub receipt : (tick : ℕ) → (given ≡ log_answer.Acked tick) ↔ ((was.log.phase ≡ GateSync) × (was.log.down ≡ false) × (new.log.down ≡ false) × (tick ≡ new.log.base + new.log.count))
-  pub down : (given ≡ log_answer.Down) ↔ (new.log.down ≡ true)
-  pub rests : (given ≡ log_answer.Idle) ⊎ (was.log.down ≡ true) → (new.log ≡ was.log) × (new.queue ≡ was.queue) × (stepped_a ≡ armed_a) × (stepped_b ≡ armed_b)
-  pub cause : given ≡ log_answer.Down → (was.log.down ≡ true) ⊎ (Grew (failures armed_a) (failures stepped_a) ⊎ Grew (failures armed_b) (failures stepped_b))
-  pub faults : new.log.down ≡ false → (failures stepped_a ≡ failures armed_a) × (failures stepped_b ≡ failures armed_b)
-  pub calls : was.log.down ≡ false → LogCallsIn called (of_slot was.log.current armed_a armed_b) (of_slot was.log.current stepped_a stepped_b)
-      (of_slot was.log.current armed_b armed_a) (of_slot was.log.current stepped_b stepped_a) was.log.phase was.queue
-  pub lowers : new.log.down ≡ false → 0 < work_of was.log was.queue → work_of new.log new.queue < work_of was.log was.queue
 
 -- no file is called if there is no job, and otherwise one is called once
 abbrev IsLogCalled : LogPhase → List Record → (one one' other other' : File) → Type 0
@@ -328,11 +313,11 @@ true_or_false : (b : Bool) → (b ≡ true) ⊎ (b ≡ false)
 true_or_false true = inl refl
 true_or_false false = inr refl
 
-log_calls : (was : State) (given : LogAnswer) (new : State) (armed_a armed_b stepped_a stepped_b : File) → StepsArmedLog was armed_a armed_b given stepped_a stepped_b new
-    → MayCall ((given ≡ log_answer.Idle) ⊎ (was.log.down ≡ true)) armed_a stepped_a armed_b stepped_b
-log_calls was given new aa ab sa sb s = elim (true_or_false was.log.down) [
+log_calls : (was : State) (given : LogAnswer) (stepped : State) → TakesLogStep content_of leaves_of true failures called was given stepped
+    → MayCall ((given ≡ log_answer.Idle) ⊎ (was.log.down ≡ true)) was.files.log_a stepped.files.log_a was.files.log_b stepped.files.log_b
+log_calls was given stepped s = elim (true_or_false was.log.down) [
   | inl down ↦ inl (inr down, (s.rests (inr down)).2, (s.rests (inr down)).3)
-  | inr up ↦ elim (by_log_slot was.log.phase was.queue was.log.current aa sa ab sb (s.calls up)) [
+  | inr up ↦ elim (by_log_slot was.log.phase was.queue was.log.current was.files.log_a stepped.files.log_a was.files.log_b stepped.files.log_b (s.calls up)) [
     | inl none ↦ (let idle = s.idle.1 (up, none.0, none.1) in inl (inl idle, (s.rests (inl idle)).2, (s.rests (inl idle)).3))
     | inr call ↦ inr call
   ]
@@ -351,29 +336,84 @@ log_fails : (fate : Fate) (given : LogAnswer) (was new : LogProgress) (a b new_a
 log_fails fate_.Done given was new a b na nb down rests f = f
 log_fails fate_.Failed given was new a b na nb down rests f = λ few_a few_b. is_idle_or_down given was new down rests (f few_a few_b)
 
-pub log_step_at : (fate : Fate) (was old new : State) (given : LogAnswer) (armed_a armed_b stepped_a stepped_b : File) → was ≡ old
-    → IsMoved fate was.log_a armed_a stepped_a new.log_a → IsMoved fate was.log_b armed_b stepped_b new.log_b
-    → StepsArmedLog was armed_a armed_b given stepped_a stepped_b new → StepsLogKeeper fate old given new
-log_step_at fate was old new given aa ab sa sb e ma mb s =
-    let rest = (given ≡ log_answer.Idle) ⊎ (was.log.down ≡ true) in
-    let may = log_calls was given new aa ab sa sb s in
-    subst (λ o. StepsLogKeeper fate o given new) e (record {
-      rest = s.rest;
+log_step_at : (fate : Fate) (was old : State) (given : LogAnswer) (ready stepped new : State) → was ≡ old → AreUnarmed was.files → IsInOrder content_of true was → IsInOrder content_of true new
+    → ready ≡ record was { files = record was.files { log_a = armed (is_failed fate) was.files.log_a; log_b = armed (is_failed fate) was.files.log_b } }
+    → TakesLogStep content_of leaves_of true failures called ready given stepped
+    → new ≡ record stepped { files = record stepped.files { log_a = armed false stepped.files.log_a; log_b = armed false stepped.files.log_b } }
+    → StepsLogKeeper fate old given new
+log_step_at fate was old given ready stepped new e unarmed order ordered arm step disarm =
+    let aa = armed (is_failed fate) was.files.log_a in
+    let ab = armed (is_failed fate) was.files.log_b in
+    let at : State = record was { files = record was.files { log_a = aa; log_b = ab } } in
+    let sa = stepped.files.log_a in
+    let sb = stepped.files.log_b in
+    let na = armed false sa in
+    let nb = armed false sb in
+    let last : State = record stepped { files = record stepped.files { log_a = na; log_b = nb } } in
+    let s = subst (λ w. TakesLogStep content_of leaves_of true failures called w given stepped) arm step in
+    let ma : IsMoved fate was.files.log_a aa sa na = record { unarmed = unarmed.log_a; armed_is = arms fate was.files.log_a; new_is = refl } in
+    let mb : IsMoved fate was.files.log_b ab sb nb = record { unarmed = unarmed.log_b; armed_is = arms fate was.files.log_b; new_is = refl } in
+    let rest : last ≡ record was { queue = stepped.queue; log = stepped.log; files = record was.files { log_a = na; log_b = nb } } = (
+    λ i. record (s.rest i) { files = record (s.rest i).files { log_a = na; log_b = nb } }) in
+    let kept : IsInOrder content_of true last = subst (IsInOrder content_of true) disarm ordered in
+    let resting = (given ≡ log_answer.Idle) ⊎ (was.log.down ≡ true) in
+    let may = log_calls at given stepped s in
+    let is : StepsLogKeeper fate was given last = record {
+      rest = rest;
       front = s.front;
-      stands = λ place. moved_step fate was.log_a aa sa new.log_a was.log_b ab sb new.log_b ma mb (LogIn was.log place) (LogIn new.log)
-          (λ next. JournalStep place was.queue given next new.queue) (s.stands place);
-      follows = s.follows;
-      end = s.end;
+      stands = λ place h. s.stands refl place (log_armed (is_failed fate) was place h);
+      follows = kept.queue_follows;
+      end = kept.queue_end ∙ ap (λ (w : State). record { base = w.ended - w.since; count = w.since }) rest ∙ sym order.queue_end;
       idle = s.idle;
       receipt = s.receipt;
       down = s.down;
       rests = λ h.
           (let r = s.rests h in
-          (r.0, r.1, rests fate was.log_a aa sa new.log_a ma r.2, rests fate was.log_b ab sb new.log_b mb r.3));
-      calls = λ up. log_called_at fate was.log_a aa sa new.log_a was.log_b ab sb new.log_b ma mb was.log.current was.log.phase was.queue (s.calls up);
-      cause = λ h. elim (s.cause h) [ inl d ↦ inl d | inr g ↦ inr (has_failed fate was.log_a aa sa new.log_a was.log_b ab sb new.log_b ma mb g) ];
-      fails = log_fails fate given was.log new.log was.log_a was.log_b new.log_a new.log_b s.down (λ h. (s.rests h).0)
-          (fails_by fate (given ≡ log_answer.Down) rest was.log_a aa sa new.log_a was.log_b ab sb new.log_b ma mb may
-          (log_counts given new.log.down (failures aa) (failures sa) (failures ab) (failures sb) s.down s.faults));
+          (r.0, r.1, rests fate was.files.log_a aa sa na ma r.2, rests fate was.files.log_b ab sb nb mb r.3));
+      calls = λ up. log_called_at fate was.files.log_a aa sa na was.files.log_b ab sb nb ma mb was.log.current was.log.phase was.queue (s.calls up);
+      cause = λ h. elim (s.cause h) [ inl d ↦ inl d | inr g ↦ inr (has_failed fate was.files.log_a aa sa na was.files.log_b ab sb nb ma mb g) ];
+      fails = log_fails fate given was.log stepped.log was.files.log_a was.files.log_b na nb s.down (λ h. (s.rests h).0)
+          (fails_by fate (given ≡ log_answer.Down) resting was.files.log_a aa sa na was.files.log_b ab sb nb ma mb may
+          (log_counts given stepped.log.down (failures aa) (failures sa) (failures ab) (failures sb) s.down s.no_fault));
       lowers = s.lowers;
-    })
+    } in
+    subst (λ o. StepsLogKeeper fate o given new) e (subst (λ n. StepsLogKeeper fate was given n) (sym disarm) is)
+
+-- ---- a step that is told whether its calls fail, and the files after it
+
+pub image_moves : (fate : Fate) (fails : Bool) (was old : State) (given : ImageAnswer) (ready stepped new : State) → was ≡ old → fails ≡ is_failed fate → AreUnarmed was.files
+    → ready ≡ record was { files = record was.files { image_a = armed fails was.files.image_a; image_b = armed fails was.files.image_b } }
+    → TakesImageStep content_of leaves_of true failures called ready given stepped
+    → new ≡ record stepped { files = record stepped.files { image_a = armed false stepped.files.image_a; image_b = armed false stepped.files.image_b } }
+    → StepsImageKeeper fate old given new × AreUnarmed new.files
+image_moves fate fails was old given ready stepped new e same unarmed arm step disarm = (
+  image_step_at fate was old given ready stepped new e unarmed
+      (subst (λ b. ready ≡ record was { files = record was.files { image_a = armed b was.files.image_a; image_b = armed b was.files.image_b } }) same arm) step disarm,
+  record {
+    image_a = ap (λ (s : State). s.files.image_a.left) disarm;
+    image_b = ap (λ (s : State). s.files.image_b.left) disarm;
+    log_a = ap (λ (s : State). s.files.log_a.left) disarm ∙ ap (λ (s : State). s.files.log_a.left) step.rest ∙ ap (λ (s : State). s.files.log_a.left) arm ∙ unarmed.log_a;
+    log_b = ap (λ (s : State). s.files.log_b.left) disarm ∙ ap (λ (s : State). s.files.log_b.left) step.rest ∙ ap (λ (s : State). s.files.log_b.left) arm ∙ unarmed.log_b;
+  },
+)
+
+pub log_moves : (fate : Fate) (fails : Bool) (was old : State) (given : LogAnswer) (ready stepped new : State) → was ≡ old → fails ≡ is_failed fate → AreUnarmed was.files
+    → IsInOrder content_of true was → IsInOrder content_of true new
+    → ready ≡ record was { files = record was.files { log_a = armed fails was.files.log_a; log_b = armed fails was.files.log_b } }
+    → TakesLogStep content_of leaves_of true failures called ready given stepped
+    → new ≡ record stepped { files = record stepped.files { log_a = armed false stepped.files.log_a; log_b = armed false stepped.files.log_b } }
+    → StepsLogKeeper fate old given new × AreUnarmed new.files
+log_moves fate fails was old given ready stepped new e same unarmed order ordered arm step disarm = (
+  log_step_at fate was old given ready stepped new e unarmed order ordered
+      (subst (λ b. ready ≡ record was { files = record was.files { log_a = armed b was.files.log_a; log_b = armed b was.files.log_b } }) same arm) step disarm,
+  record {
+    image_a = ap (λ (s : State). s.files.image_a.left) disarm ∙ ap (λ (s : State). s.files.image_a.left) step.rest ∙ ap (λ (s : State). s.files.image_a.left) arm ∙ unarmed.image_a;
+    image_b = ap (λ (s : State). s.files.image_b.left) disarm ∙ ap (λ (s : State). s.files.image_b.left) step.rest ∙ ap (λ (s : State). s.files.image_b.left) arm ∙ unarmed.image_b;
+    log_a = ap (λ (s : State). s.files.log_a.left) disarm;
+    log_b = ap (λ (s : State). s.files.log_b.left) disarm;
+  },
+)
+
+-- files that a move leaves alone
+pub still_unarmed : (old new : State) → new.files ≡ old.files → AreUnarmed old.files → AreUnarmed new.files
+still_unarmed old new same unarmed = subst AreUnarmed (sym same) unarmed

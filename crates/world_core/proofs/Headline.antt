@@ -1,7 +1,7 @@
 -- The folds of the headline are those of the past.
 use Rattle.std.proofs.Common.{◌≡◌, ℕ, inl, inr, List, [], ◌∷◌, ◌++◌, length, Ok, refl, sym, ap, subst, ◌∙◌, arith, replicate}
 use Rattle.std.proofs.lemmas.List.{length-append}
-use Rattle.world_ticks.specs.After.{after_ticks}
+use Rattle.world_ticks.specs.After.{after_actions, after_ticks}
 use Rattle.action_log.specs.declared.answer.LogAnswer.{LogAnswer}
 use Rattle.action_log.specs.declared.answer.LogAnswer.TheVariants as log_answer
 use Rattle.action_log.specs.Cover.{cover_answer}
@@ -20,6 +20,7 @@ use Rattle.world_core.specs.Headline.{AreSafe, Headline, Answers, Runs}
 use Rattle.world_core.specs.Written.{NoneIsEmpty, AreWritten, StayWritten}
 use Rattle.world_core.specs.Plain.{AreWords, IsPlainLogAnswer, IsPlainAnswer, AreAnswered, HasRun}
 use Rattle.world_core.proofs.Safe.{core_is_safe}
+use Rattle.world_core.proofs.Recovering.{fresh_cells}
 
 pub past_of-more : (past : Past) (moves : List Move) (answers : List Answer) (asked : Move) (given : Answer)
     → length answers ≡ length moves → past_of past (moves ++ asked ∷ []) (answers ++ given ∷ []) ≡ past_after (past_of past moves answers) asked given
@@ -46,7 +47,7 @@ past_of-opened past (asked ∷ moves) [] e = absurd (omega (arith, e))
 past_of-opened past (asked ∷ moves) (given ∷ answers) e = past_of-opened (past_after past asked given) moves answers (omega (arith, e))
 
 headline : SafetyLaws → (cells : ℕ) (moves : List Move) (answers : List Answer) (state : State) → length answers ≡ length moves
-    → state.cells ≡ cells → IsCoreAt (past_of fresh_past moves answers) state
+    → state.images.cells ≡ cells → IsCoreAt (past_of fresh_past moves answers) state
     → Headline cells moves answers (files_in state)
 headline laws cells moves answers state e same c =
     let past = past_of fresh_past moves answers in
@@ -73,8 +74,12 @@ runs-more past first mid last (other ∷ moves) (said ∷ answers) asked given r
 
 -- ---- the plain answers
 
-words_are : (cells : ℕ) (past : Past) (state : State) → IsCoreAt past state → state.cells ≡ cells → AreWords cells past.history state.content.live
-words_are cells past state c same = (c.live.last, subst (λ n. after_ticks (replicate n 0) past.history.ticks ≡ Ok c.live.last) same c.live.after_ended, c.live.live)
+words_are : (cells : ℕ) (past : Past) (state : State) → IsCoreAt past state → state.images.cells ≡ cells → AreWords cells past.history state.content.live
+words_are cells past state c same = (
+  c.follows.last,
+  subst (λ n. after_ticks (replicate n 0) past.history.ticks ≡ Ok c.follows.last) (sym c.cells_are ∙ same) c.follows.after_ended,
+  subst (λ r. after_actions c.follows.last r ≡ Ok state.content.live) c.running c.follows.live,
+)
 
 plain_log : (past : Past) (state : State) (given : LogAnswer) → IsLogAnswer past state given → IsPlainLogAnswer past given
 plain_log past state log_answer.Idle (inl waits) = inl waits
@@ -83,7 +88,7 @@ plain_log past state log_answer.Working e = (e.0, e.1)
 plain_log past state (log_answer.Acked tick) e = (e.0, e.1, omega (arith, e.3))
 plain_log past state log_answer.Down e = e
 
-plain_is : SafetyLaws → (cells : ℕ) (past : Past) (state : State) → IsCoreAt past state → state.cells ≡ cells
+plain_is : SafetyLaws → (cells : ℕ) (past : Past) (state : State) → IsCoreAt past state → state.images.cells ≡ cells
     → (asked : Move) (given : Answer) → IsExact past state asked given → IsPlainAnswer cells past asked given
 plain_is laws cells past state c same (move.Act action) given e = (state.content.live, words_are cells past state c same, e)
 plain_is laws cells past state c same (move.Get cell) given e = (state.content.live, words_are cells past state c same, e)
@@ -110,11 +115,17 @@ answered-more cells past (other ∷ moves) (said ∷ answers) asked given r a = 
 
 pub has_begun : StayWritten → (cells : ℕ) (answers : List Answer) (state : State) → IsCoreAt fresh_past state → BeginsFresh cells state → answers ≡ [] → HasRun cells [] answers state
 unfolding HasRun
-has_begun stay cells answers state c b none =
-    (c, ap length none, b.cells_are, (state, b, subst (λ a. Runs fresh_past state [] a state) (sym none) refl), subst (λ a. AreAnswered cells fresh_past [] a) (sym none) tt, stay.fresh cells state b)
+has_begun stay cells answers state c b none = (
+  c,
+  ap length none,
+  fresh_cells cells state b,
+  (state, b, subst (λ a. Runs fresh_past state [] a state) (sym none) refl),
+  subst (λ a. AreAnswered cells fresh_past [] a) (sym none) tt,
+  stay.fresh cells state b,
+)
 
 pub has_run_more : SafetyLaws → StayWritten → (cells : ℕ) (old new : State) (moves : List Move) (answers now : List Answer) (asked : Move) (given : Answer) → HasRun cells moves answers old
-    → ((past : Past) → IsCoreAt past old → IsCoreAt (past_after past asked given) new × Answers past old asked given new) → new.cells ≡ old.cells → now ≡ answers ++ given ∷ []
+    → ((past : Past) → IsCoreAt past old → IsCoreAt (past_after past asked given) new × Answers past old asked given new) → new.images.cells ≡ old.images.cells → now ≡ answers ++ given ∷ []
     → HasRun cells (moves ++ asked ∷ []) now new
 unfolding HasRun
 has_run_more laws stay cells old new moves answers now asked given h step same e =
@@ -142,7 +153,7 @@ pub run_stands : (cells : ℕ) (moves : List Move) (answers : List Answer) (stat
 unfolding HasRun
 run_stands cells moves answers state h = h.0
 
-pub run_cells : (cells : ℕ) (moves : List Move) (answers : List Answer) (state : State) → HasRun cells moves answers state → state.cells ≡ cells
+pub run_cells : (cells : ℕ) (moves : List Move) (answers : List Answer) (state : State) → HasRun cells moves answers state → state.images.cells ≡ cells
 unfolding HasRun
 run_cells cells moves answers state h = h.2
 

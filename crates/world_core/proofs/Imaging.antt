@@ -1,6 +1,5 @@
 -- The steps of the image keeper keep the invariant of a core.
-use Rattle.std.proofs.lemmas.List.{length-replicate}
-use Rattle.std.proofs.Common.{◌≡◌, ◌↔◌, ℕ, ◌<◌, inl, inr, Bool, true, false, ◌||◌, List, [], ◌∷◌, length, Option, Some, None, is_some, option_map, Ok, refl, sym, ap, subst, ◌∙◌, arith, replicate}
+use Rattle.std.proofs.Common.{◌≡◌, ◌↔◌, ℕ, ◌<◌, inl, inr, Bool, true, false, ◌||◌, List, [], length, Option, Some, None, is_some, option_map, refl, sym, ap, subst, ◌∙◌, arith, replicate}
 use Rattle.world_actions.specs.declared.action.Action.{Action}
 use Rattle.capture_core.specs.declared.taker.Taken.{Taken}
 use Rattle.capture_core.specs.Content.{Content, Takes}
@@ -12,17 +11,20 @@ use Rattle.image_files.specs.Images.{Round, ImageFiles, NoneYet, Newest, round_i
 use Rattle.world_core.specs.declared.moves.Fate.{Fate}
 use Rattle.world_core.specs.declared.moves.Move.TheVariants as move
 use Rattle.world_core.specs.declared.moves.Answer.TheVariants as answer
-use Rattle.world_core.specs.History.{opens}
+use Rattle.world_core.specs.History.{acknowledged_after, opens}
 use Rattle.world_core.specs.Standing.{Standing, standing_after}
 use Rattle.world_core.specs.Past.{Past, past_after}
-use Rattle.world_core.specs.State.{State, is_down}
-use Rattle.world_core.specs.Laws.{EventLaws, KeeperLaws}
+use Rattle.engine.specs.World.{IsInOrder}
+use Rattle.engine.specs.Refusals.{is_down}
+use Rattle.engine.specs.Laws.{EventLaws}
+use Rattle.engine.proofs.Following.{Keeps, image_follows}
+use Rattle.recovery.specs.Events.{acknowledged_opened}
+use Rattle.world_core.specs.State.{State, content_of, leaves_of}
 use Rattle.world_core.specs.Exact.{Progresses, IsImageAnswer}
-use Rattle.capture_core.specs.Taken.{taken_of}
-use Rattle.image_files.specs.Progress.{Progress, cells_taken, moves_left, left_of, opened_keeper, newest_tick}
-use Rattle.std.specs.Prelude.{slice_get}
+use Rattle.image_files.specs.Progress.{Progress, moves_left, left_of, opened_keeper, newest_tick}
 use Rattle.world_core.specs.Moving.{StepsImageKeeper}
-use Rattle.world_core.specs.Facts.{HasEnded, IsCoreAt, is_known}
+use Rattle.world_core.specs.Facts.{IsCoreAt, is_known}
+use Rattle.world_core.proofs.Exact.{still_reported}
 
 -- ---- the facts by the answer
 
@@ -106,66 +108,56 @@ step_live cells old new images given_.Working next s = elim s.2 [
 step_live cells old new images (given_.Opened tick) next s = ap (λ (c : Content). c.live) s.5
 step_live cells old new images given_.Down next s = ap (λ (c : Content). c.live) s.3
 
-pub image_keeps : EventLaws → (past : Past) (old new : State) (fate : Fate) (given : ImageAnswer) → IsCoreAt past old
+-- both count the same opened images
+counts : (acknowledged : ℕ) (given : ImageAnswer) → acknowledged_after acknowledged (answer.Image given) ≡ acknowledged_opened acknowledged given
+counts acknowledged given_.Idle = refl
+counts acknowledged given_.Working = refl
+counts acknowledged (given_.Opened tick) = refl
+counts acknowledged given_.Down = refl
+
+pub image_keeps : EventLaws → (past : Past) (old new : State) (fate : Fate) (given : ImageAnswer) → IsCoreAt past old → IsInOrder content_of true new
     → StepsImageKeeper fate old given new → IsCoreAt (past_after past (move.Image fate) (answer.Image given)) new
-image_keeps laws past old new fate given c d =
+image_keeps laws past old new fate given c order d =
     let after = past_after past (move.Image fate) (answer.Image given) in
-    let moved : State = record old { content = new.content; images = new.images; image_a = new.image_a; image_b = new.image_b } in
-    let s = d.stands c.images c.has_images in
-    let steps : StepsImages Takes old.cells c.images given s.0 old.content new.content = subst (λ n. StepsImages Takes n c.images given s.0 old.content new.content) c.keeper_cells s.2 in
-    let steps_zeros : StepsImages Takes (length (replicate old.cells 0)) c.images given s.0 old.content new.content = subst
-    (λ n. StepsImages Takes n c.images given s.0 old.content new.content) (sym (length-replicate old.cells 0)) steps in
-    let after_seen = seen_after old.cells old.content new.content past.standing past.history.running fate past.has_image c.images given s.0 steps
+    let first : List ℕ = replicate c.size 0 in
+    let ticks = past.history.ticks in
+    let moved : State = record old { content = new.content; images = new.images; files = record old.files { image_a = new.files.image_a; image_b = new.files.image_b } } in
+    let live : new.content.live ≡ old.content.live = (let s = d.stands c.images c.has_images in step_live old.images.cells old.content new.content c.images given s.0 s.2) in
+    let a = image_follows content_of leaves_of laws old new given first ticks past.acknowledged d.rest d.stands d.cells live c.follows in
+    let next = a.follows.images in
+    let whole : Keeps content_of leaves_of new first ticks (acknowledged_opened past.acknowledged given) next c.place = record { follows = a.follows; images_are = refl; place_is = a.place } in
+    let k : Keeps content_of leaves_of moved first ticks after.acknowledged next c.place = subst (λ w. Keeps content_of leaves_of w first ticks after.acknowledged next c.place) d.rest
+    (subst (λ n. Keeps content_of leaves_of new first ticks n next c.place) (sym (counts past.acknowledged given)) whole) in
+    let after_seen = seen_after (length first) old.content new.content past.standing past.history.running fate past.has_image c.images given next a.steps
     (λ k. seen (c.reported.round k) (c.reported.newest k) (c.reported.is_image_known k)) in
     let st = image_standing past.standing past.history.running fate given in
-    let k = c.counted in
-    let live = step_live old.cells old.content new.content c.images given s.0 steps in
     let is : IsCoreAt after moved = record {
-      cells = record { some_cells = c.some_cells; few_cells = c.few_cells; keeper_cells = d.cells ∙ c.keeper_cells };
-      live = record { last = c.live.last; after_ended = c.live.after_ended; live = c.live.live ∙ ap (λ w. Ok w) (sym live); all = ap length live ∙ c.live.all; running = c.live.running };
-      counted =
-          record {
-            numbers = subst (λ n. HasEnded past.history.ticks n old.ended old.since) (sym st.since) k.numbers;
-            queue_follows = k.queue_follows;
-            queue_end = k.queue_end;
-            taken = k.taken;
-            records = st.records ∙ k.records;
-          };
-      images = s.0;
-      place = c.place;
-      has_images = s.1;
-      has_log = c.has_log;
-      in_step = laws.goes_on.image_step (replicate old.cells 0) past.history.ticks past.acknowledged c.images c.place.journal old.queue given s.0 old.content new.content steps_zeros c.in_step;
-      at_rest = c.at_rest;
-      reported = record {
+      size = c.size;
+      some_cells = c.some_cells;
+      few_cells = c.few_cells;
+      cells_are = d.cells ∙ c.cells_are;
+      order = subst (IsInOrder content_of true) d.rest order;
+      follows = k.follows;
+      running = c.running;
+      since = c.since ∙ sym st.since;
+      few = c.few;
+      taken = c.taken;
+      records = st.records ∙ c.records;
+      reported = still_reported after moved k.follows.images next k.follows.place c.place k.images_are k.place_is (record {
         is_image_known = ap (λ (x : Option ℕ × ℕ × Bool). x.2) after_seen;
         start_left = st.start_left ∙ c.reported.start_left;
         image_down = down_after past.standing past.history.running fate old.images.phase new.images.phase given d.down d.stays_down c.reported.image_down;
         log_down = st.log_down ∙ c.reported.log_down;
         round = ap (λ (x : Option ℕ × ℕ × Bool). x.0) after_seen;
         newest = ap (λ (x : Option ℕ × ℕ × Bool). x.1) after_seen;
-      };
+      });
     } in
     subst (IsCoreAt after) (sym d.rest) is
 
--- ---- a round continues
-
-gave_none : (left : List (Option ℕ)) → ◌≡◌ {A = Option Taken} None (option_map taken_of (slice_get left 0)) → left ≡ []
-gave_none [] e = refl
-gave_none (entry ∷ left) e = absurd (let g = e in cc)
-
--- a capture with an open round has a cell left for each that isn't taken
-no_empty_take : EventLaws → KeeperLaws → (past : Past) (old new : State) (c : IsCoreAt past old) (round : Round)
-    → round_in c.images ≡ Some round → cells_taken old.images < old.images.cells → Takes old.content None new.content → ⊥
-no_empty_take laws keepers past old new c round is fewer t =
-    let r = keepers.round old.images c.images old.image_a old.image_b c.has_images
-    (λ e. (let g : None ≡ Some round = sym (keepers.idle old.images c.images old.image_a old.image_b c.has_images e) ∙ is in absurd (let h = g in cc))) in
-    let full : length r.0.taken ≡ old.cells = laws.goes_on.all_taken (replicate old.cells 0) past.history.ticks old.content
-    c.images r.0 r.1 (gave_none old.content.left t.gives) c.in_step.store ∙ length-replicate old.cells 0 in
-    omega (arith, fewer, full, r.3, c.keeper_cells)
+-- ---- the answer
 
 -- a keeper in a round that isn't down has moves left
-some_left : (p : Phase) (keeper : Progress) → (p ≡ Idle → ⊥) → (p ≡ Down → ⊥) → 0 < moves_left p keeper
+pub some_left : (p : Phase) (keeper : Progress) → (p ≡ Idle → ⊥) → (p ≡ Down → ⊥) → 0 < moves_left p keeper
 some_left Idle k idle down = absurd (idle refl)
 some_left Down k idle down = absurd (down refl)
 some_left p k idle down = omega arith
@@ -173,18 +165,14 @@ some_left p k idle down = omega arith
 none_left : (keeper old : Progress) → keeper ≡ opened_keeper old → left_of keeper ≡ 0
 none_left keeper old e = ap left_of e
 
-pub image_progress : EventLaws → KeeperLaws → (past : Past) (old new : State) (fate : Fate) (given : ImageAnswer)
-    → IsCoreAt past old → StepsImageKeeper fate old given new → Progresses (move.Image fate) (answer.Image given) old new
-image_progress laws keepers past old new fate given_.Idle c d = tt
-image_progress laws keepers past old new fate given_.Working c d = elim d.working [
-  | inl less ↦ less
-  | inr none ↦ absurd (let s = (d.stands c.images c.has_images).2 in no_empty_take laws keepers past old new c s.0 s.1 none.0 none.1)
-]
-image_progress laws keepers past old new fate (given_.Opened tick) c d = (
+pub image_progress : (old new : State) (fate : Fate) (given : ImageAnswer) → StepsImageKeeper fate old given new → Progresses (move.Image fate) (answer.Image given) old new
+image_progress old new fate given_.Idle d = tt
+image_progress old new fate given_.Working d = d.working
+image_progress old new fate (given_.Opened tick) d = (
   none_left new.images old.images d.opened,
   some_left old.images.phase old.images (λ e. (let g = d.idle.1 e in absurd (let h = g in cc))) (λ e. (let g = d.stays_down e in absurd (let h = g in cc))),
 )
-image_progress laws keepers past old new fate given_.Down c d = tt
+image_progress old new fate given_.Down d = tt
 
 some_round : (standing : Option ℕ) (round : Option Round) (r : Round) → standing ≡ round_tick round → round ≡ Some r → standing ≡ Some r.tick
 some_round standing round r e is = e ∙ ap round_tick is

@@ -7,7 +7,6 @@ pub mod Covering
 pub mod Exact
 pub mod Safe
 pub mod Written
-pub mod Marking
 pub mod Crashing
 pub mod Recovering
 pub mod Headline

@@ -20,7 +20,7 @@ use Rattle.world_core.specs.declared.moves.Answer.TheVariants as answer
 use Rattle.world_core.specs.Standing.{is_log_waiting}
 use Rattle.world_core.specs.Past.{Past}
 use Rattle.world_core.specs.State.{State, HasLog}
-use Rattle.world_core.specs.Laws.{EventLaws}
+use Rattle.engine.specs.Laws.{EventLaws}
 use Rattle.world_core.specs.Exact.{IsLogAnswer, Progresses}
 use Rattle.world_core.specs.Moving.{StepsLogKeeper}
 use Rattle.world_core.specs.Facts.{IsCoreAt}
@@ -61,15 +61,16 @@ log_progress old new fate given_.Down d = tt
 -- ---- the answer
 
 -- a receipt comes after the start
-receipt_in : EventLaws → (past : Past) (old new : State) (tick : ℕ) (images : ImageFiles) (journal : Journal) (left : ℕ) (next : LogPlace) → HasLog old (record { journal = journal; left = left })
-    → HasPhase (replicate old.cells 0) past.history.ticks past.acknowledged images journal old.queue
+receipt_in : EventLaws → (past : Past) (old new : State) (first : List ℕ) (count : ℕ) (tick : ℕ) (images : ImageFiles) (journal : Journal) (left : ℕ) (next : LogPlace) → HasLog old
+    (record { journal = journal; left = left })
+    → HasPhase first past.history.ticks count images journal old.queue
     → StepIn journal left old.queue (given_.Acked tick) next new.queue → (left ≡ 0) × (tick + length (ticks_in old.queue) ≡ length past.history.ticks)
-receipt_in laws past old new tick images (InStart start) left next stands phase s = absurd s.0
-receipt_in laws past old new tick (NoneYet images) (Writing logs) left next stands phase s = absurd phase
-receipt_in laws past old new tick (Newest images) (Writing logs) left next stands phase s = (
+receipt_in laws past old new first count tick images (InStart start) left next stands phase s = absurd s.0
+receipt_in laws past old new first count tick (NoneYet images) (Writing logs) left next stands phase s = absurd phase
+receipt_in laws past old new first count tick (Newest images) (Writing logs) left next stands phase s = (
   stands.1,
-  ap (λ q. tick + length (ticks_in q)) (sym s.2.queue_is) ∙ laws.keeps.receipt (replicate old.cells 0) past.history.ticks
-      past.acknowledged images logs old.queue (given_.Acked tick) s.0 new.queue phase s.2,
+  ap (λ q. tick + length (ticks_in q)) (sym s.2.queue_is) ∙ laws.keeps.receipt first past.history.ticks
+      count images logs old.queue (given_.Acked tick) s.0 new.queue phase s.2,
 )
 
 pub log_exact : EventLaws → (past : Past) (old new : State) (fate : Fate) (given : LogAnswer) → IsCoreAt past old
@@ -79,7 +80,7 @@ log_exact laws past old new fate given_.Working c going d =
     (going, c.reported.log_down ∙ was_up old new fate given_.Working d (λ e. let g = e in cc), has_work old new fate given_.Working d (λ e. let g = e in cc) (λ e. let g = e in cc))
 log_exact laws past old new fate (given_.Acked tick) c going d =
     let s = d.stands c.place c.has_log in
-    let r = receipt_in laws past old new tick c.images c.place.journal c.place.left s.0 c.has_log c.in_step.phase s.2 in (
+    let r = receipt_in laws past old new (replicate c.size 0) c.follows.count tick c.images c.place.journal c.place.left s.0 c.has_log c.follows.in_step.phase s.2 in (
       ap (nat_lt 0) (c.reported.start_left ∙ r.0),
       c.reported.log_down ∙ was_up old new fate (given_.Acked tick) d
           (λ e. let g = e in cc),

@@ -1,9 +1,8 @@
 -- The steps of the log keeper keep the invariant of a core.
-use Rattle.world_core.proofs.Safe.{some_zeros}
-use Rattle.std.proofs.Common.{◌≡◌, ◌↔◌, ℕ, ◌-◌, inl, inr, Bool, true, false, List, [], ◌++◌, map, None, refl, sym, ap, subst, ◌∙◌, append_assoc, replicate}
+use Rattle.std.proofs.Common.{◌⊎◌, ◌≡◌, ◌↔◌, ℕ, ◌-◌, inl, inr, Bool, true, false, List, ◌++◌, map, None, refl, sym, ap, subst, ◌∙◌, append_assoc, replicate}
 use Rattle.std.proofs.lemmas.List.{map-append}
 use Rattle.world_actions.specs.declared.action.Action.{Action}
-use Rattle.image_files.specs.Images.{ImageFiles, round_in}
+use Rattle.image_files.specs.Images.{round_in}
 use Rattle.action_log.specs.declared.answer.LogAnswer.{LogAnswer}
 use Rattle.action_log.specs.declared.answer.LogAnswer.TheVariants as given_
 use Rattle.action_log.specs.declared.record.Record.{Record}
@@ -11,17 +10,19 @@ use Rattle.action_log.specs.Logs.{Logs, Journal, InStart, Writing, LogPlace}
 use Rattle.action_log.specs.LogSteps.{StepIn}
 use Rattle.action_log.specs.Progress.{taken}
 use Rattle.recovery.specs.Events.{acknowledged_after as log_acknowledged}
-use Rattle.restart.specs.InStep.{InStep, NoneWaitedFor}
 use Rattle.world_core.specs.declared.moves.Fate.{Fate}
 use Rattle.world_core.specs.declared.moves.Move.TheVariants as move
 use Rattle.world_core.specs.declared.moves.Answer.TheVariants as answer
 use Rattle.world_core.specs.History.{acknowledged_after}
 use Rattle.world_core.specs.Standing.{Standing, standing_after, queued_of}
 use Rattle.world_core.specs.Past.{Past, past_after}
-use Rattle.world_core.specs.State.{State, HasLog}
-use Rattle.world_core.specs.Laws.{EventLaws}
+use Rattle.engine.specs.World.{IsInOrder}
+use Rattle.engine.specs.Laws.{EventLaws}
+use Rattle.engine.proofs.Following.{Keeps, log_follows}
+use Rattle.world_core.specs.State.{State, HasLog, content_of, leaves_of}
 use Rattle.world_core.specs.Moving.{StepsLogKeeper}
-use Rattle.world_core.specs.Facts.{HasEnded, IsCoreAt, IsAtRest}
+use Rattle.world_core.specs.Facts.{IsCoreAt}
+use Rattle.world_core.proofs.Exact.{still_reported}
 
 -- ---- the facts by the answer
 
@@ -79,21 +80,6 @@ counts acknowledged given_.Working = refl
 counts acknowledged (given_.Acked tick) = refl
 counts acknowledged given_.Down = refl
 
--- the start's log part doesn't wait
-none_waited : (state : State) (images : ImageFiles) (journal : Journal) (left : ℕ)
-    → HasLog state (record { journal = journal; left = left }) → (state.log.starting ≡ true → round_in images ≡ None) → NoneWaitedFor journal images
-none_waited state images (InStart start) left stands waits = waits stands.in_work
-none_waited state images (Writing logs) left stands waits = tt
-
-pub empty_rests : (journal : Journal) (running : List Action) → running ≡ [] → IsAtRest journal running
-empty_rests (InStart start) running e = e
-empty_rests (Writing logs) running e = tt
-
-log_rests : (running : List Action) (journal : Journal) (left : ℕ) (queue : List Record) (given : LogAnswer) (next : LogPlace)
-    (rest : List Record) → StepIn journal left queue given next rest → IsAtRest journal running → IsAtRest next.journal running
-log_rests running (InStart start) left queue given next rest s at_rest = empty_rests next.journal running at_rest
-log_rests running (Writing logs) left queue given next rest s at_rest = subst (λ (p : LogPlace). IsAtRest p.journal running) (sym s.1) tt
-
 none_in : (state : State) (journal : Journal) (left : ℕ) → HasLog state (record { journal = journal; left = left }) → (logs : Logs) → journal ≡ Writing logs → left ≡ 0
 none_in state (InStart start) left stands logs e = absurd (let g = e in cc)
 none_in state (Writing current) left stands logs e = stands.1
@@ -102,44 +88,43 @@ none_in state (Writing current) left stands logs e = stands.1
 pub stays_down : (old new : State) (fate : Fate) (given : LogAnswer) → StepsLogKeeper fate old given new → old.log.down ≡ true → given ≡ given_.Down
 stays_down old new fate given d e = d.down.1 (ap (λ k. k.down) (d.rests (inr e)).0 ∙ e)
 
-pub log_keeps : EventLaws → (past : Past) (old new : State) (fate : Fate) (given : LogAnswer) → (c : IsCoreAt past old)
-    → (old.log.starting ≡ true → round_in c.images ≡ None) → StepsLogKeeper fate old given new
+pub log_keeps : EventLaws → (past : Past) (old new : State) (fate : Fate) (given : LogAnswer) → (c : IsCoreAt past old) → IsInOrder content_of true new
+    → (old.log.starting ≡ false) ⊎ (round_in c.images ≡ None) → StepsLogKeeper fate old given new
     → IsCoreAt (past_after past (move.Log fate) (answer.Log given)) new
-log_keeps laws past old new fate given c waits d =
+log_keeps laws past old new fate given c order turn d =
     let after = past_after past (move.Log fate) (answer.Log given) in
-    let moved : State = record old { queue = new.queue; log = new.log; log_a = new.log_a; log_b = new.log_b } in
-    let s = d.stands c.place c.has_log in
+    let first : List ℕ = replicate c.size 0 in
+    let ticks = past.history.ticks in
+    let moved : State = record old { queue = new.queue; log = new.log; files = record old.files { log_a = new.files.log_a; log_b = new.files.log_b } } in
+    let a = log_follows content_of leaves_of laws old new given first ticks past.acknowledged d.rest d.stands c.follows turn in
+    let place = a.follows.place in
+    let whole : Keeps content_of leaves_of new first ticks (log_acknowledged past.acknowledged given) c.images place = record { follows = a.follows; images_are = a.images; place_is = refl } in
+    let k : Keeps content_of leaves_of moved first ticks after.acknowledged c.images place = subst (λ w. Keeps content_of leaves_of w first ticks after.acknowledged c.images place) d.rest
+    (subst (λ n. Keeps content_of leaves_of new first ticks n c.images place) (sym (counts past.acknowledged given)) whole) in
     let st = log_standing past.standing past.history.running fate given in
-    let k = c.counted in
     let is : IsCoreAt after moved = record {
-      cells = c.cells;
-      live = c.live;
-      counted = record {
-        numbers = subst (λ n. HasEnded past.history.ticks n old.ended old.since) (sym st.since) k.numbers;
-        queue_follows = d.follows;
-        queue_end = d.end ∙ k.queue_end;
-        taken = k.taken ++ map queued_of (taken old.log old.queue);
-        records =
-            st.records ∙ k.records ∙ ap (λ q. k.taken ++ map queued_of q) d.front ∙ ap
-            (λ l. k.taken ++ l) (map-append queued_of (taken old.log old.queue) new.queue) ∙ sym (append_assoc k.taken (map queued_of (taken old.log old.queue)) (map queued_of new.queue));
-      };
-      images = c.images;
-      place = s.0;
-      has_images = c.has_images;
-      has_log = s.1;
-      in_step = subst (λ a. InStep (replicate old.cells 0) past.history.ticks a old.content c.images s.0.journal new.queue) (sym (counts past.acknowledged given))
-          (laws.goes_on.log_step (replicate old.cells 0) past.history.ticks past.acknowledged old.content c.images c.place old.queue given s.0 new.queue (some_zeros old.cells c.some_cells)
-          (none_waited old c.images c.place.journal c.place.left c.has_log waits) s.2 c.in_step);
-      at_rest = log_rests old.running c.place.journal c.place.left old.queue given s.0 new.queue s.2 c.at_rest;
-      reported = record {
+      size = c.size;
+      some_cells = c.some_cells;
+      few_cells = c.few_cells;
+      cells_are = c.cells_are;
+      order = subst (IsInOrder content_of true) d.rest order;
+      follows = k.follows;
+      running = c.running;
+      since = c.since ∙ sym st.since;
+      few = c.few;
+      taken = c.taken ++ map queued_of (taken old.log old.queue);
+      records =
+          st.records ∙ c.records ∙ ap (λ q. c.taken ++ map queued_of q) d.front ∙ ap
+          (λ l. c.taken ++ l) (map-append queued_of (taken old.log old.queue) new.queue) ∙ sym (append_assoc c.taken (map queued_of (taken old.log old.queue)) (map queued_of new.queue));
+      reported = still_reported after moved k.follows.images c.images k.follows.place place k.images_are k.place_is (record {
         is_image_known = c.reported.is_image_known;
         start_left =
-            left_after past.standing past.history.running fate c.place.journal c.place.left old.queue given s.0 new.queue s.2
+            left_after past.standing past.history.running fate c.place.journal c.place.left old.queue given place new.queue a.steps
             (none_in old c.place.journal c.place.left c.has_log) c.reported.start_left;
         image_down = st.image_down ∙ c.reported.image_down;
         log_down = down_after past.standing past.history.running fate old.log.down new.log.down given d.down (stays_down old new fate given d) c.reported.log_down;
         round = st.round ∙ c.reported.round;
         newest = st.newest ∙ c.reported.newest;
-      };
+      });
     } in
     subst (IsCoreAt after) (sym d.rest) is

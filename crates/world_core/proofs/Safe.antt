@@ -14,7 +14,8 @@ use Rattle.recovery.specs.Recovery.{Recovery, recovery_of}
 use Rattle.recovery.specs.Sound.{IsSound, IsSoundReading, IsFresh}
 use Rattle.restart.specs.InStep.{IsSafe}
 use Rattle.world_core.specs.Past.{Past}
-use Rattle.world_core.specs.State.{State, files_in}
+use Rattle.engine.proofs.Sound.{follows_safe, fewer_sound}
+use Rattle.world_core.specs.State.{State, content_of, leaves_of, files_in}
 use Rattle.world_core.specs.Laws.{SafetyLaws}
 use Rattle.world_core.specs.Facts.{IsCoreAt, is_known}
 use Rattle.world_core.specs.Headline.{AreSafe, FreshAreRecovered}
@@ -24,20 +25,22 @@ pub some_zeros : (cells : ℕ) → 1 ≤ cells → 1 ≤ length {A = ℕ} (repli
 some_zeros cells some = omega (arith, length-replicate {A = ℕ} cells 0, some)
 
 -- an image is known exactly after the first
-by_known : (first : List ℕ) (state : State) (ticks : List (List Action)) (acknowledged : ℕ) (images : ImageFiles)
-    → IsSafe images (IsCrashOutcome state.image_a.inner) (IsCrashOutcome state.image_b.inner) (IsCrashOutcome state.log_a.inner) (IsCrashOutcome state.log_b.inner) first ticks acknowledged
+by_known : (first : List ℕ) (state : State) (ticks : List (List Action)) (acknowledged count : ℕ) (images : ImageFiles) → acknowledged ≤ count
+    → IsSafe images (leaves_of state.files.image_a) (leaves_of state.files.image_b) (leaves_of state.files.log_a) (leaves_of state.files.log_b) first ticks count
     → AreSafe (is_known images) (files_in state) first ticks acknowledged
-by_known first state ticks acknowledged (NoneYet images) safe = safe
-by_known first state ticks acknowledged (Newest images) safe = safe
+by_known first state ticks acknowledged count (NoneYet images) fewer safe = (safe.0, safe.1, omega (arith, fewer, safe.2))
+by_known first state ticks acknowledged count (Newest images) fewer safe =
+    fewer_sound (leaves_of state.files.image_a) (leaves_of state.files.image_b) (leaves_of state.files.log_a) (leaves_of state.files.log_b) first ticks acknowledged count fewer safe
 
 -- the law on which the headline rests
-pub core_is_safe : SafetyLaws → (past : Past) (state : State) → IsCoreAt past state → AreSafe past.has_image (files_in state) (replicate state.cells 0) past.history.ticks past.acknowledged
+pub core_is_safe : SafetyLaws → (past : Past) (state : State) → IsCoreAt past state → AreSafe past.has_image (files_in state) (replicate state.images.cells 0) past.history.ticks past.acknowledged
 core_is_safe laws past state c =
     let ticks = past.history.ticks in
-    let first : List ℕ = replicate state.cells 0 in
-    subst (λ h. AreSafe h (files_in state) first ticks past.acknowledged) (sym c.reported.is_image_known)
-    (by_known first state ticks past.acknowledged c.images
-    (laws.safe first state ticks past.acknowledged c.images c.place (c.keeper_cells ∙ sym (length-replicate state.cells 0)) c.has_images c.has_log c.in_step))
+    let first : List ℕ = replicate c.size 0 in
+    let safe = follows_safe content_of leaves_of laws.keepers state first ticks past.acknowledged c.follows in
+    subst (λ n. AreSafe past.has_image (files_in state) (replicate n 0) ticks past.acknowledged) (sym c.cells_are)
+    (subst (λ h. AreSafe h (files_in state) first ticks past.acknowledged) (sym c.reported.is_image_known)
+    (by_known first state ticks past.acknowledged c.follows.count c.images c.follows.at_least safe))
 
 -- the same for any bytes that may be left of each file
 abbrev pub AreSafeFor : (has_image : Bool) → (image_a image_b log_a log_b : List ℕ → Type 0) → (first : List ℕ) → List (List Action) → (acknowledged : ℕ) → Type 0
@@ -50,9 +53,9 @@ safe_for true files first ticks acknowledged safe = safe
 safe_for false files first ticks acknowledged safe = safe
 
 pub core_is_safe_for : SafetyLaws → (past : Past) (state : State) → IsCoreAt past state
-    → AreSafeFor past.has_image (IsCrashOutcome state.image_a.inner) (IsCrashOutcome state.image_b.inner)
-    (IsCrashOutcome state.log_a.inner) (IsCrashOutcome state.log_b.inner) (replicate state.cells 0) past.history.ticks past.acknowledged
-core_is_safe_for laws past state c = safe_for past.has_image (files_in state) (replicate state.cells 0) past.history.ticks past.acknowledged (core_is_safe laws past state c)
+    → AreSafeFor past.has_image (IsCrashOutcome state.files.image_a.inner) (IsCrashOutcome state.files.image_b.inner)
+    (IsCrashOutcome state.files.log_a.inner) (IsCrashOutcome state.files.log_b.inner) (replicate state.images.cells 0) past.history.ticks past.acknowledged
+core_is_safe_for laws past state c = safe_for past.has_image (files_in state) (replicate state.images.cells 0) past.history.ticks past.acknowledged (core_is_safe laws past state c)
 
 -- ---- before there is an image
 

@@ -39,7 +39,9 @@ use Rattle.action_log.specs.LogSteps.{StepIn}
 use Rattle.recovery.specs.Recovery.{Recovery}
 use Rattle.recovery.specs.Restart.{IsBuilt}
 use Rattle.recovery.specs.Start.{IsFirstRound}
-use Rattle.restart.specs.Start.{started_keeper, is_shut}
+use Rattle.restart.specs.Start.{has_round, is_shut}
+use Rattle.engine.specs.Steps.{EndsTick}
+use Rattle.engine.proofs.Beginning.{started_newest}
 use Rattle.restart.specs.InStep.{HasPhase}
 use Rattle.world_core.specs.declared.moves.Fate.{Fate}
 use Rattle.world_core.specs.declared.moves.Fate.TheVariants as fate_
@@ -50,11 +52,11 @@ use Rattle.world_core.specs.declared.moves.Answer.TheVariants as answer
 use Rattle.world_core.specs.Past.{Past, past_after, fresh_past}
 use Rattle.world_core.specs.State.{File, State, files_in, HasImages, HasLog}
 use Rattle.world_core.specs.Starting.{HasOnly, Begins, BeginsFresh, StandsOn}
-use Rattle.world_core.specs.Moving.{CallsBy, EndsTick, StepsImageKeeper, StepsLogKeeper}
+use Rattle.world_core.specs.Moving.{CallsBy, StepsImageKeeper, StepsLogKeeper}
 use Rattle.world_core.specs.Exact.{MayLeave}
 use Rattle.world_core.specs.Facts.{IsCoreAt}
 use Rattle.world_core.specs.Headline.{Answers}
-use Rattle.world_core.specs.Laws.{KeeperLaws, OutcomeLaws, SafetyLaws}
+use Rattle.world_core.specs.Laws.{KeeperLaws, SafetyLaws}
 use Rattle.world_core.specs.Written.{NoneIsEmpty, IsWritten, AreWritten, StayWritten}
 use Rattle.world_core.proofs.Safe.{core_is_safe_for}
 use Rattle.world_core.proofs.Imaging.{taken_newest}
@@ -116,12 +118,12 @@ module _ (fate : Fate) where
   image_calls_keep image_phase.Reading target new_target newest new_newest c = (same_keeps target new_target c.0, once_keeps fate newest new_newest c.1)
   image_calls_keep phase target new_target newest new_newest c = (once_keeps fate target new_target c.0, same_keeps newest new_newest c.1)
 
-  image_step_keeps : (old : State) (given : ImageAnswer) (new : State) → StepsImageKeeper fate old given new → Keeps old.image_a new.image_a × Keeps old.image_b new.image_b
+  image_step_keeps : (old : State) (given : ImageAnswer) (new : State) → StepsImageKeeper fate old given new → Keeps old.files.image_a new.files.image_a × Keeps old.files.image_b new.files.image_b
   image_step_keeps old given new s =
       let slot = target_of old.images.newest in
-      by_slot slot old.image_a new.image_a old.image_b new.image_b
-      (image_calls_keep old.images.phase (of_slot slot old.image_a old.image_b) (of_slot slot new.image_a new.image_b)
-      (of_slot slot old.image_b old.image_a) (of_slot slot new.image_b new.image_a) s.calls)
+      by_slot slot old.files.image_a new.files.image_a old.files.image_b new.files.image_b
+      (image_calls_keep old.images.phase (of_slot slot old.files.image_a old.files.image_b) (of_slot slot new.files.image_a new.files.image_b)
+      (of_slot slot old.files.image_b old.files.image_a) (of_slot slot new.files.image_b new.files.image_a) s.calls)
 
   log_calls_keep : (phase : Phase) (queue : List Record) (current new_current other new_other : File)
       → LogCallsIn (CallsBy fate) current new_current other new_other phase queue → Keeps current new_current × Keeps other new_other
@@ -135,14 +137,16 @@ module _ (fate : Fate) where
   log_calls_keep GateSync queue current new_current other new_other c = (once_keeps fate current new_current c.0, same_keeps other new_other c.1)
   log_calls_keep phase queue current new_current other new_other c = (same_keeps current new_current c.0, once_keeps fate other new_other c.1)
 
-  log_step_keeps_by : (down : Bool) (old : State) (given : LogAnswer) (new : State) → old.log.down ≡ down → StepsLogKeeper fate old given new → Keeps old.log_a new.log_a × Keeps old.log_b new.log_b
+  log_step_keeps_by : (down : Bool) (old : State) (given : LogAnswer) (new : State) → old.log.down ≡ down → StepsLogKeeper fate old given new → Keeps old.files.log_a new.files.log_a × Keeps
+      old.files.log_b new.files.log_b
   log_step_keeps_by false old given new up s =
       let slot = old.log.current in
-      by_slot slot old.log_a new.log_a old.log_b new.log_b
-      (log_calls_keep old.log.phase old.queue (of_slot slot old.log_a old.log_b) (of_slot slot new.log_a new.log_b) (of_slot slot old.log_b old.log_a) (of_slot slot new.log_b new.log_a) (s.calls up))
-  log_step_keeps_by true old given new down s = (let r = s.rests (inr down) in (same_keeps old.log_a new.log_a r.2, same_keeps old.log_b new.log_b r.3))
+      by_slot slot old.files.log_a new.files.log_a old.files.log_b new.files.log_b
+      (log_calls_keep old.log.phase old.queue (of_slot slot old.files.log_a old.files.log_b) (of_slot slot new.files.log_a new.files.log_b) (of_slot slot old.files.log_b old.files.log_a)
+      (of_slot slot new.files.log_b new.files.log_a) (s.calls up))
+  log_step_keeps_by true old given new down s = (let r = s.rests (inr down) in (same_keeps old.files.log_a new.files.log_a r.2, same_keeps old.files.log_b new.files.log_b r.3))
 
-  log_step_keeps : (old : State) (given : LogAnswer) (new : State) → StepsLogKeeper fate old given new → Keeps old.log_a new.log_a × Keeps old.log_b new.log_b
+  log_step_keeps : (old : State) (given : LogAnswer) (new : State) → StepsLogKeeper fate old given new → Keeps old.files.log_a new.files.log_a × Keeps old.files.log_b new.files.log_b
   log_step_keeps old given new s = log_step_keeps_by old.log.down old given new refl s
 
 -- ---- files with an open image or segment
@@ -200,20 +204,20 @@ retired_written : (phase : Phase) (current : Slot) (starting down : Bool) (base 
     → CurrentFits phase starting down base written (of_slot current log_a.content log_b.content)
     → CurrentOutcomes phase base written (of_slot current log_a.content log_b.content) (in_slot current (IsCrashOutcome log_a) (IsCrashOutcome log_b))
     → IsWritten 1 log_b
-retired_written phase current starting down base written log_a log_b last is_b in_start fits outcomes =
+retired_written phase current starting down base written log_a log_b last is_b in_start fits keepers =
     let shut = subst (λ s. CurrentFits OpeningSync true down base written (of_slot s log_a.content log_b.content)) is_b
     (subst (λ p. CurrentFits p true down base written (of_slot current log_a.content log_b.content)) last
     (subst (λ s. CurrentFits phase s down base written (of_slot current log_a.content log_b.content)) in_start fits)) in
     let only = subst (λ s. CurrentOutcomes OpeningSync base written (of_slot s log_a.content log_b.content) (in_slot s (IsCrashOutcome log_a) (IsCrashOutcome log_b))) is_b
-    (subst (λ p. CurrentOutcomes p base written (of_slot current log_a.content log_b.content) (in_slot current (IsCrashOutcome log_a) (IsCrashOutcome log_b))) last outcomes) in
+    (subst (λ p. CurrentOutcomes p base written (of_slot current log_a.content log_b.content) (in_slot current (IsCrashOutcome log_a) (IsCrashOutcome log_b))) last keepers) in
     subst (λ b. 1 ≤ length b) (sym (only log_b.durable (durable_stays log_b))) shut.0
 
 ends_closed : (state : State) (start : Start) (left : ℕ) → HasLog state (record { journal = InStart start; left = left })
-    → state.log.down ≡ false → state.log.starting ≡ true → left ≡ 1 → IsWritten 1 state.log_b.inner
+    → state.log.down ≡ false → state.log.starting ≡ true → left ≡ 1 → IsWritten 1 state.files.log_b.inner
 ends_closed state start left h up in_start one =
     let keeper = state.log in
     let last = last_phase keeper.phase keeper.other_shut (sym (h.left_is up) ∙ one) (subst (λ s. IsTrue (is_of_start keeper.phase s)) in_start h.holds.in_order.of_start) in
-    retired_written keeper.phase keeper.current keeper.starting keeper.down keeper.base h.written state.log_a.inner state.log_b.inner last (h.holds.in_order.first_is_a in_start) in_start
+    retired_written keeper.phase keeper.current keeper.starting keeper.down keeper.base h.written state.files.log_a.inner state.files.log_b.inner last (h.holds.in_order.first_is_a in_start) in_start
     h.holds.fits.of_current h.endures.of_current
 
 not_both : (b : Bool) → b ≡ true → b ≡ false → ⊥
@@ -226,28 +230,28 @@ was_up fate false old given new e s was is = e
 was_up fate true old given new e s was is = absurd (not_both new.log.starting (ap (λ (k : LogProgress). k.starting) (s.rests (inr e)).0 ∙ was) is)
 
 -- the start's last step leaves both logs written
-start_ends : OutcomeLaws → (fate : Fate) (old new : State) (journal : Journal) (left : ℕ) (given : LogAnswer) (next : LogPlace) → StepsLogKeeper fate old given new
+start_ends : KeeperLaws → (fate : Fate) (old new : State) (journal : Journal) (left : ℕ) (given : LogAnswer) (next : LogPlace) → StepsLogKeeper fate old given new
     → HasLog old (record { journal = journal; left = left }) → HasLog new next → StepIn journal left old.queue given next new.queue
-    → old.log.starting ≡ true → new.log.starting ≡ false → IsWritten 10 new.log_a.inner × IsWritten 1 new.log_b.inner
-start_ends outcomes fate old new (Writing logs) left given next s had has step was is = absurd (not_both old.log.starting was had.0.over)
-start_ends outcomes fate old new (InStart start) left log_given.Idle next s had has step was is = absurd step.0
-start_ends outcomes fate old new (InStart start) left (log_given.Acked tick) next s had has step was is = absurd step.0
-start_ends outcomes fate old new (InStart start) left log_given.Down next s had has step was is =
+    → old.log.starting ≡ true → new.log.starting ≡ false → IsWritten 10 new.files.log_a.inner × IsWritten 1 new.files.log_b.inner
+start_ends keepers fate old new (Writing logs) left given next s had has step was is = absurd (not_both old.log.starting was had.0.over)
+start_ends keepers fate old new (InStart start) left log_given.Idle next s had has step was is = absurd step.0
+start_ends keepers fate old new (InStart start) left (log_given.Acked tick) next s had has step was is = absurd step.0
+start_ends keepers fate old new (InStart start) left log_given.Down next s had has step was is =
     absurd (not_both new.log.starting (let h = subst (HasLog new) step.0.1 has in h.in_work) is)
-start_ends outcomes fate old new (InStart start) left log_given.Working next s had has step was is = elim step.0 [
+start_ends keepers fate old new (InStart start) left log_given.Working next s had has step was is = elim step.0 [
   | inl more ↦ absurd (not_both new.log.starting (let h = subst (HasLog new) more.1 has in h.in_work) is)
   | inr last ↦ (
       let place : LogPlace = record { journal = Writing (started start.tick); left = 0 } in
-      let a = current_written start.tick new.log_a.inner new.log_b.inner (outcomes.log new.log place new.log_a new.log_b (subst (HasLog new) last.1 has)) in
+      let a = current_written start.tick new.files.log_a.inner new.files.log_b.inner (keepers.reads new.log new.files.log_a new.files.log_b place (subst (HasLog new) last.1 has)) in
       (a, (log_step_keeps fate old log_given.Working new s).1 1 (ends_closed old start left had (was_up fate old.log.down old log_given.Working new refl s was is) was last.0)))
 ]
 
-log_ends : OutcomeLaws → (fate : Fate) (old new : State) (place : LogPlace) (given : LogAnswer) → HasLog old place
+log_ends : KeeperLaws → (fate : Fate) (old new : State) (place : LogPlace) (given : LogAnswer) → HasLog old place
     → StepsLogKeeper fate old given new → old.log.starting ≡ true → new.log.starting ≡ false
-    → IsWritten 10 new.log_a.inner × IsWritten 1 new.log_b.inner
-log_ends outcomes fate old new place given has s was is =
+    → IsWritten 10 new.files.log_a.inner × IsWritten 1 new.files.log_b.inner
+log_ends keepers fate old new place given has s was is =
     let next = s.stands place has in
-    start_ends outcomes fate old new place.journal place.left given next.0 s has next.1 next.2 was is
+    start_ends keepers fate old new place.journal place.left given next.0 s has next.1 next.2 was is
 
 -- ---- a round's end
 
@@ -269,22 +273,22 @@ first_tick first ticks acknowledged images (InStart start) queue round h some = 
 first_tick first ticks acknowledged images (Writing logs) queue round h some = absurd h
 
 -- a round that ends leaves two images that are written, except the first one
-opened_written : OutcomeLaws → (past : Past) (old new : State) (images : ImageFiles) (journal : Journal) (round : Round)
-    → HasPhase (replicate old.cells 0) past.history.ticks past.acknowledged images journal old.queue → round_in images ≡ Some round
-    → HasImages new (with_opened round images) → 0 < newest_tick (newest_in (with_opened round images)) → IsWritten 17 new.image_a.inner × IsWritten 17 new.image_b.inner
-opened_written outcomes past old new (NoneYet images) journal round phase some has after_first =
-    absurd (omega (arith, after_first, first_tick (replicate old.cells 0) past.history.ticks past.acknowledged images journal old.queue round phase some))
-opened_written outcomes past old new (Newest images) journal round phase some has after_first =
-    let left = outcomes.images new.images (with_opened round (Newest images)) new.image_a new.image_b has in
-    both_open (other_slot images.slot) new.image_a.inner new.image_b.inner round.tick images.tick round.taken images.words left.newest left.target
+opened_written : KeeperLaws → (past : Past) (old new : State) (first : List ℕ) (count : ℕ) (images : ImageFiles) (journal : Journal) (round : Round)
+    → HasPhase first past.history.ticks count images journal old.queue → round_in images ≡ Some round
+    → HasImages new (with_opened round images) → 0 < newest_tick (newest_in (with_opened round images)) → IsWritten 17 new.files.image_a.inner × IsWritten 17 new.files.image_b.inner
+opened_written keepers past old new first count (NoneYet images) journal round phase some has after_first =
+    absurd (omega (arith, after_first, first_tick first past.history.ticks count images journal old.queue round phase some))
+opened_written keepers past old new first count (Newest images) journal round phase some has after_first =
+    let left = keepers.images_are new.images (with_opened round (Newest images)) new.files.image_a new.files.image_b has in
+    both_open (other_slot images.slot) new.files.image_a.inner new.files.image_b.inner round.tick images.tick round.taken images.words left.newest left.target
 
-image_step_written : KeeperLaws → OutcomeLaws → (past : Past) (fate : Fate) (old : State) (given : ImageAnswer) (new : State)
+image_step_written : KeeperLaws → (past : Past) (fate : Fate) (old : State) (given : ImageAnswer) (new : State)
     → IsCoreAt past old → StepsImageKeeper fate old given new → AreWritten past old
-    → 0 < newest_tick new.images.newest → IsWritten 17 new.image_a.inner × IsWritten 17 new.image_b.inner
-image_step_written keepers outcomes past fate old given new c s w after_first =
+    → 0 < newest_tick new.images.newest → IsWritten 17 new.files.image_a.inner × IsWritten 17 new.files.image_b.inner
+image_step_written keepers past fate old given new c s w after_first =
     let next = s.stands c.images c.has_images in
-    let was : old.images.newest ≡ newest_in c.images = keepers.newest old.images c.images old.image_a old.image_b c.has_images in
-    let is : new.images.newest ≡ newest_in next.0 = keepers.newest new.images next.0 new.image_a new.image_b next.1 in
+    let was : old.images.newest ≡ newest_in c.images = keepers.newest old.images c.images old.files.image_a old.files.image_b c.has_images in
+    let is : new.images.newest ≡ newest_in next.0 = keepers.newest new.images next.0 new.files.image_a new.files.image_b next.1 in
     let keeps = image_step_keeps fate old given new s in
     elim (newest_same old.images.cells c.images given next.0 old.content new.content next.2) [
       | inl same ↦ (
@@ -293,101 +297,109 @@ image_step_written keepers outcomes past fate old given new c s w after_first =
           (keeps.0 17 both.0, keeps.1 17 both.1))
       | inr opened ↦ (
           let has = subst (HasImages new) opened.1 next.1 in
-          opened_written outcomes past old new c.images c.place.journal opened.0 c.in_step.phase opened.2 has (subst (λ n. 0 < newest_tick n) (is ∙ ap newest_in opened.1) after_first))
+          opened_written keepers past old new (replicate c.size 0) c.follows.count c.images c.place.journal opened.0 c.follows.in_step.phase opened.2 has
+          (subst (λ n. 0 < newest_tick n) (is ∙ ap newest_in opened.1) after_first))
     ]
 
 -- ---- a tick's end
 
 -- a record is queued only after the start
-queued_by : (past : Past) (state : State) (images : ImageFiles) (journal : Journal) (left : ℕ)
-    → HasPhase (replicate state.cells 0) past.history.ticks past.acknowledged images journal state.queue → HasLog state (record { journal = journal; left = left })
+queued_by : (past : Past) (state : State) (first : List ℕ) (count : ℕ) (images : ImageFiles) (journal : Journal) (left : ℕ)
+    → HasPhase first past.history.ticks count images journal state.queue → HasLog state (record { journal = journal; left = left })
     → 0 < length state.queue → state.log.starting ≡ false
-queued_by past state (NoneYet images) (InStart start) left h has some = absurd (omega (arith, some, ap length h.1))
-queued_by past state (Newest images) (InStart start) left h has some = absurd (omega (arith, some, ap length h.1))
-queued_by past state (NoneYet images) (Writing logs) left h has some = absurd h
-queued_by past state (Newest images) (Writing logs) left h has some = has.0.over
+queued_by past state first count (NoneYet images) (InStart start) left h has some = absurd (omega (arith, some, ap length h.1))
+queued_by past state first count (Newest images) (InStart start) left h has some = absurd (omega (arith, some, ap length h.1))
+queued_by past state first count (NoneYet images) (Writing logs) left h has some = absurd h
+queued_by past state first count (Newest images) (Writing logs) left h has some = has.0.over
 
 tick_written : (past next : Past) (old new : State) → IsCoreAt next new → EndsTick old new → AreWritten past old → AreWritten next new
 tick_written past next old new c e w =
     let queued : length new.queue ≡ length old.queue + 1 = ap (λ (s : State). length s.queue) e.2 ∙ length-append old.queue (records.Tick e.0 ∷ []) in
-    let over : new.log.starting ≡ false = queued_by next new c.images c.place.journal c.place.left c.in_step.phase c.has_log (let some : 0 < length new.queue = omega (arith, queued) in some) in
+    let over : new.log.starting ≡ false = queued_by next new (replicate c.size 0) c.follows.count c.images c.place.journal c.place.left c.follows.in_step.phase c.has_log
+    (let some : 0 < length new.queue = omega (arith, queued) in some) in
     let both = w.started (ap (λ (s : State). s.log.starting) (sym e.2) ∙ over) in
-    let logs : IsWritten 10 new.log_a.inner × IsWritten 1 new.log_b.inner =
-    (subst (λ (s : State). IsWritten 10 s.log_a.inner) (sym e.2) both.0, subst (λ (s : State). IsWritten 1 s.log_b.inner) (sym e.2) both.1) in
+    let logs : IsWritten 10 new.files.log_a.inner × IsWritten 1 new.files.log_b.inner =
+    (subst (λ (s : State). IsWritten 10 s.files.log_a.inner) (sym e.2) both.0, subst (λ (s : State). IsWritten 1 s.files.log_b.inner) (sym e.2) both.1) in
     record {
       started = λ is. logs;
       ticked = λ some. logs;
       imaged = λ after_first. (
           let images = w.imaged (subst (λ (s : State). 0 < newest_tick s.images.newest) e.2 after_first) in
-          (subst (λ (s : State). IsWritten 17 s.image_a.inner) (sym e.2) images.0, subst (λ (s : State). IsWritten 17 s.image_b.inner) (sym e.2) images.1));
+          (subst (λ (s : State). IsWritten 17 s.files.image_a.inner) (sym e.2) images.0, subst (λ (s : State). IsWritten 17 s.files.image_b.inner) (sym e.2) images.1));
     }
 
 -- ---- the other moves
 
 -- the same files, keepers and ticks
 still_written : (past next : Past) (old new : State) → next.history.ticks ≡ past.history.ticks → new.log ≡ old.log → new.images.newest ≡ old.images.newest
-    → new.log_a ≡ old.log_a → new.log_b ≡ old.log_b → new.image_a ≡ old.image_a → new.image_b ≡ old.image_b → AreWritten past old → AreWritten next new
+    → new.files.log_a ≡ old.files.log_a → new.files.log_b ≡ old.files.log_b → new.files.image_a ≡ old.files.image_a → new.files.image_b ≡ old.files.image_b → AreWritten past old → AreWritten next new
 still_written past next old new ticks log newest log_a log_b image_a image_b w = record {
-  started = λ is. (let both = w.started (ap (λ (k : LogProgress). k.starting) (sym log) ∙ is) in (same_keeps old.log_a new.log_a log_a 10 both.0, same_keeps old.log_b new.log_b log_b 1 both.1));
-  ticked = λ some. (let two = w.ticked (subst (λ (t : List (List Action)). 0 < length t) ticks some) in (same_keeps old.log_a new.log_a log_a 10 two.0, same_keeps old.log_b new.log_b log_b 1 two.1));
+  started = λ is. (let both = w.started (ap (λ (k : LogProgress). k.starting) (sym log) ∙ is) in (
+    same_keeps old.files.log_a new.files.log_a log_a 10 both.0,
+    same_keeps old.files.log_b
+        new.files.log_b log_b 1 both.1,
+  ));
+  ticked = λ some. (let two = w.ticked (subst (λ (t : List (List Action)). 0 < length t) ticks some) in
+      (same_keeps old.files.log_a new.files.log_a log_a 10 two.0, same_keeps old.files.log_b new.files.log_b log_b 1 two.1));
   imaged =
       λ after_first.
-      (let both = w.imaged (subst (λ n. 0 < newest_tick n) newest after_first) in (same_keeps old.image_a new.image_a image_a 17 both.0, same_keeps old.image_b new.image_b image_b 17 both.1));
+      (let both = w.imaged (subst (λ n. 0 < newest_tick n) newest after_first) in (
+        same_keeps old.files.image_a new.files.image_a image_a 17 both.0,
+        same_keeps old.files.image_b
+            new.files.image_b image_b 17 both.1,
+      ));
 }
 
 same_written : (past next : Past) (old new : State) → next.history.ticks ≡ past.history.ticks → new ≡ old → AreWritten past old → AreWritten next new
 same_written past next old new ticks is w =
-    still_written past next old new ticks (ap (λ (s : State). s.log) is) (ap (λ (s : State). s.images.newest) is) (ap (λ (s : State). s.log_a) is) (ap (λ (s : State). s.log_b) is)
-    (ap (λ (s : State). s.image_a) is) (ap (λ (s : State). s.image_b) is) w
+    still_written past next old new ticks (ap (λ (s : State). s.log) is) (ap (λ (s : State). s.images.newest) is) (ap (λ (s : State). s.files.log_a) is) (ap (λ (s : State). s.files.log_b) is)
+    (ap (λ (s : State). s.files.image_a) is) (ap (λ (s : State). s.files.image_b) is) w
 
-image_written : KeeperLaws → OutcomeLaws → (past next : Past) (fate : Fate) (old : State) (given : ImageAnswer) (new : State)
+image_written : KeeperLaws → (past next : Past) (fate : Fate) (old : State) (given : ImageAnswer) (new : State)
     → next.history.ticks ≡ past.history.ticks → IsCoreAt past old → StepsImageKeeper fate old given new
     → AreWritten past old → AreWritten next new
-image_written keepers outcomes past next fate old given new ticks c s w =
-    let log_a = same_keeps old.log_a new.log_a (ap (λ (s : State). s.log_a) s.rest) in
-    let log_b = same_keeps old.log_b new.log_b (ap (λ (s : State). s.log_b) s.rest) in
+image_written keepers past next fate old given new ticks c s w =
+    let log_a = same_keeps old.files.log_a new.files.log_a (ap (λ (s : State). s.files.log_a) s.rest) in
+    let log_b = same_keeps old.files.log_b new.files.log_b (ap (λ (s : State). s.files.log_b) s.rest) in
     record {
       started = λ is. (let both = w.started (ap (λ (s : State). s.log.starting) (sym s.rest) ∙ is) in (log_a 10 both.0, log_b 1 both.1));
       ticked = λ some. (let both = w.ticked (subst (λ (t : List (List Action)). 0 < length t) ticks some) in (log_a 10 both.0, log_b 1 both.1));
-      imaged = image_step_written keepers outcomes past fate old given new c s w;
+      imaged = image_step_written keepers past fate old given new c s w;
     }
 
-log_started : OutcomeLaws → (past : Past) (fate : Fate) (old : State) (given : LogAnswer) (new : State) → IsCoreAt past old → StepsLogKeeper fate old given new → AreWritten past old
-    → (was : Bool) → old.log.starting ≡ was → new.log.starting ≡ false → IsWritten 10 new.log_a.inner × IsWritten 1 new.log_b.inner
-log_started outcomes past fate old given new c s w true was is = log_ends outcomes fate old new c.place given c.has_log s was is
-log_started outcomes past fate old given new c s w false was is = (let both = w.started was in let keeps = log_step_keeps fate old given new s in (keeps.0 10 both.0, keeps.1 1 both.1))
+log_started : KeeperLaws → (past : Past) (fate : Fate) (old : State) (given : LogAnswer) (new : State) → IsCoreAt past old → StepsLogKeeper fate old given new → AreWritten past old
+    → (was : Bool) → old.log.starting ≡ was → new.log.starting ≡ false → IsWritten 10 new.files.log_a.inner × IsWritten 1 new.files.log_b.inner
+log_started keepers past fate old given new c s w true was is = log_ends keepers fate old new c.place given c.has_log s was is
+log_started keepers past fate old given new c s w false was is = (let both = w.started was in let keeps = log_step_keeps fate old given new s in (keeps.0 10 both.0, keeps.1 1 both.1))
 
-log_written : OutcomeLaws → (past next : Past) (fate : Fate) (old : State) (given : LogAnswer) (new : State)
+log_written : KeeperLaws → (past next : Past) (fate : Fate) (old : State) (given : LogAnswer) (new : State)
     → next.history.ticks ≡ past.history.ticks → IsCoreAt past old → StepsLogKeeper fate old given new
     → AreWritten past old → AreWritten next new
-log_written outcomes past next fate old given new ticks c s w =
+log_written keepers past next fate old given new ticks c s w =
     let keeps = log_step_keeps fate old given new s in
-    let image_a = same_keeps old.image_a new.image_a (ap (λ (s : State). s.image_a) s.rest) in
-    let image_b = same_keeps old.image_b new.image_b (ap (λ (s : State). s.image_b) s.rest) in
+    let image_a = same_keeps old.files.image_a new.files.image_a (ap (λ (s : State). s.files.image_a) s.rest) in
+    let image_b = same_keeps old.files.image_b new.files.image_b (ap (λ (s : State). s.files.image_b) s.rest) in
     record {
-      started = log_started outcomes past fate old given new c s w old.log.starting refl;
+      started = log_started keepers past fate old given new c s w old.log.starting refl;
       ticked = λ some. (let both = w.ticked (subst (λ (t : List (List Action)). 0 < length t) ticks some) in (keeps.0 10 both.0, keeps.1 1 both.1));
       imaged = λ after_first. (let both = w.imaged (subst (λ (s : State). 0 < newest_tick s.images.newest) s.rest after_first) in (image_a 17 both.0, image_b 17 both.1));
     }
 
 -- ---- a crash
 
-started_newest : (round : Bool) (tick : ℕ) (keeper : ImageProgress) → (started_keeper round tick keeper).newest ≡ keeper.newest
-started_newest false tick keeper = refl
-started_newest true tick keeper = refl
-
 -- a start on files of which none is empty
-begun_written : (cells : ℕ) (newest : Option (Slot × ℕ)) (tick : ℕ) (words : List ℕ) (round : Bool) (image_a image_b log_a log_b : List ℕ) (next : Past) (new : State)
-    → Begins cells newest tick words round image_a image_b log_a log_b new
+begun_written : (newest : Option (Slot × ℕ)) (tick : ℕ) (words image_a image_b log_a log_b : List ℕ) (next : Past) (new : State)
+    → Begins newest tick words image_a image_b log_a log_b new
     → (0 < length next.history.ticks → (10 ≤ length log_a) × (1 ≤ length log_b)) → (0 < newest_tick newest → (17 ≤ length image_a) × (17 ≤ length image_b))
     → AreWritten next new
-begun_written cells newest tick words round image_a image_b log_a log_b next new b logs images = record {
-  started = λ is. absurd (not_both new.log.starting (ap (λ (k : LogProgress). k.starting) b.log) is);
-  ticked = λ some. (let both = logs some in (only_written 10 log_a new.log_a b.file_la both.0, only_written 1 log_b new.log_b b.file_lb both.1));
+begun_written newest tick words image_a image_b log_a log_b next new b logs images = record {
+  started = λ is. absurd (not_both new.log.starting (ap (λ (k : LogProgress). k.starting) b.world.log) is);
+  ticked = λ some. (let both = logs some in (only_written 10 log_a new.files.log_a b.files.file_la both.0, only_written 1 log_b new.files.log_b b.files.file_lb both.1));
   imaged = λ after_first. (
-      let is : new.images.newest ≡ newest = ap (λ (k : ImageProgress). k.newest) b.images ∙ started_newest round tick (made_keeper cells newest (is_shut image_a) (is_shut image_b)) in
+      let is : new.images.newest ≡ newest = ap (λ (k : ImageProgress). k.newest) b.world.images ∙ started_newest (has_round newest tick) tick
+      (made_keeper (length words) newest (is_shut image_a) (is_shut image_b)) in
       let both = images (subst (λ n. 0 < newest_tick n) is after_first) in
-      (only_written 17 image_a new.image_a b.file_a both.0, only_written 17 image_b new.image_b b.file_b both.1));
+      (only_written 17 image_a new.files.image_a b.files.file_a both.0, only_written 17 image_b new.files.image_b b.files.file_b both.1));
 }
 
 -- the file in a slot is the newest image's or the other one
@@ -425,78 +437,80 @@ images_left B a b tick from words older ia ib chosen newest written oa ob is som
   headed_image ib tick words (newest ib ob),
 )
 
-images_left_by : KeeperLaws → OutcomeLaws → (past : Past) (state : State) (images : ImageFiles) (journal : Journal)
-    → HasImages state images → HasPhase (replicate state.cells 0) past.history.ticks past.acknowledged images journal state.queue → AreWritten past state
+images_left_by : KeeperLaws → (past : Past) (state : State) (first : List ℕ) (count : ℕ) (images : ImageFiles) (journal : Journal)
+    → HasImages state images → HasPhase first past.history.ticks count images journal state.queue → AreWritten past state
     → (r : Recovery) (ia ib : List ℕ) (la lb : Segment) → IsBuilt r (image_of ia) (image_of ib) la lb
-    → r.tick ≤ length past.history.ticks → IsCrashOutcome state.image_a.inner ia → IsCrashOutcome state.image_b.inner ib
+    → r.tick ≤ length past.history.ticks → IsCrashOutcome state.files.image_a.inner ia → IsCrashOutcome state.files.image_b.inner ib
     → 0 < r.from → (17 ≤ length ia) × (17 ≤ length ib)
-images_left_by keepers outcomes past state (NoneYet images) (InStart start) has phase w r ia ib la lb built within oa ob some =
+images_left_by keepers past state first count (NoneYet images) (InStart start) has phase w r ia ib la lb built within oa ob some =
     absurd (omega (arith, some, within, built.ends, ap length phase.0.no_ticks))
-images_left_by keepers outcomes past state (NoneYet images) (Writing logs) has phase w r ia ib la lb built within oa ob some = absurd phase
-images_left_by keepers outcomes past state (Newest images) journal has phase w r ia ib la lb built within oa ob some =
-    let left = outcomes.images state.images (Newest images) state.image_a state.image_b has in
-    let is : state.images.newest ≡ Some (images.slot, images.tick) = keepers.newest state.images (Newest images) state.image_a state.image_b has in
-    images_left images.slot state.image_a.inner state.image_b.inner images.tick r.from images.words built.words ia ib r.slot left.newest
+images_left_by keepers past state first count (NoneYet images) (Writing logs) has phase w r ia ib la lb built within oa ob some = absurd phase
+images_left_by keepers past state first count (Newest images) journal has phase w r ia ib la lb built within oa ob some =
+    let left = keepers.images_are state.images (Newest images) state.files.image_a state.files.image_b has in
+    let is : state.images.newest ≡ Some (images.slot, images.tick) = keepers.newest state.images (Newest images) state.files.image_a state.files.image_b has in
+    images_left images.slot state.files.image_a.inner state.files.image_b.inner images.tick r.from images.words built.words ia ib r.slot left.newest
     (λ t. w.imaged (subst (λ n. 0 < newest_tick n) (sym is) t)) oa ob built.image some
 
-pub none_is_empty : KeeperLaws → OutcomeLaws → SafetyLaws → (past : Past) (state : State) → IsCoreAt past state → AreWritten past state → NoneIsEmpty (files_in state)
-none_is_empty keepers outcomes safety past state c w ia ib la lb r may e =
-    let again = restarts safety (replicate state.cells 0) past.history.ticks past.acknowledged ia ib la lb e.a e.b e.reads_a
-    e.reads_b (IsCrashOutcome state.image_a.inner) (IsCrashOutcome state.image_b.inner) (IsCrashOutcome state.log_a.inner) (IsCrashOutcome state.log_b.inner)
+pub none_is_empty : KeeperLaws → SafetyLaws → (past : Past) (state : State) → IsCoreAt past state → AreWritten past state → NoneIsEmpty (files_in state)
+none_is_empty keepers safety past state c w ia ib la lb r may e =
+    let again = restarts safety (replicate state.images.cells 0) past.history.ticks past.acknowledged ia ib la lb e.a e.b e.reads_a
+    e.reads_b (IsCrashOutcome state.files.image_a.inner) (IsCrashOutcome state.files.image_b.inner) (IsCrashOutcome state.files.log_a.inner) (IsCrashOutcome state.files.log_b.inner)
     past.has_image (core_is_safe_for safety past state c) may.0 may.1 may.2 may.3 r e.holds in
     let built = safety.restarts.built (image_of ia) (image_of ib) e.a e.b r e.holds in (
       λ some. (
           let both = w.ticked (let t : 0 < length past.history.ticks = omega (arith, some, again.world.ended) in t) in
-          (outcome_written 10 state.log_a.inner la both.0 may.2, outcome_written 1 state.log_b.inner lb both.1 may.3)),
-      images_left_by keepers outcomes past state c.images c.place.journal c.has_images c.in_step.phase w r ia ib e.a e.b built again.world.ended may.0 may.1,
+          (outcome_written 10 state.files.log_a.inner la both.0 may.2, outcome_written 1 state.files.log_b.inner lb both.1 may.3)),
+      images_left_by keepers past state (replicate c.size 0) c.follows.count c.images c.place.journal c.has_images c.follows.in_step.phase w r ia ib e.a e.b built again.world.ended may.0 may.1,
     )
 
-module _ (keepers : KeeperLaws) (outcomes : OutcomeLaws) (safety : SafetyLaws) (past : Past) (old : State) (c : IsCoreAt past old) (w : AreWritten past old) where
+module _ (keepers : KeeperLaws) (safety : SafetyLaws) (past : Past) (old : State) (c : IsCoreAt past old) (w : AreWritten past old) where
   recovered_written : (next : Past) (tick from : ℕ) (ia ib la lb : List ℕ) (new : State) → next.history.ticks ≡ take tick past.history.ticks → MayLeave (files_in old) ia ib la lb
-      → StandsOn old.cells ia ib la lb (answer.Recovered tick from) new → AreWritten next new
+      → StandsOn old.images.cells ia ib la lb (answer.Recovered tick from) new → AreWritten next new
   recovered_written next tick from ia ib la lb new ticks may s =
       let r = s.0 in
-      let none = none_is_empty keepers outcomes safety past old c w ia ib la lb r may s.1 in
-      begun_written old.cells (Some (r.slot, r.from)) r.tick r.words _ ia ib la lb next new s.5
+      let none = none_is_empty keepers safety past old c w ia ib la lb r may s.1 in
+      begun_written (Some (r.slot, r.from)) r.tick r.words ia ib la lb next new s.5
       (λ some. none.0 (let t : 0 < r.tick = omega (arith, some, ap (λ (t : List (List Action)). length t) ticks, length-take tick past.history.ticks, s.2) in t)) none.1
 
   moves_keep : (asked : Move) (given : Answer) (new : State) → IsCoreAt (past_after past asked given) new → Answers past old asked given new → AreWritten (past_after past asked given) new
   moves_keep (move.Act action) answer.Did new k a =
       still_written past (past_after past (move.Act action) answer.Did) old new refl (ap (λ (s : State). s.log) a.does.rest) (ap (λ (s : State). s.images.newest) a.does.rest)
-      (ap (λ (s : State). s.log_a) a.does.rest) (ap (λ (s : State). s.log_b) a.does.rest) (ap (λ (s : State). s.image_a) a.does.rest) (ap (λ (s : State). s.image_b) a.does.rest) w
+      (ap (λ (s : State). s.files.log_a) a.does.rest) (ap (λ (s : State). s.files.log_b) a.does.rest) (ap (λ (s : State). s.files.image_a) a.does.rest)
+      (ap (λ (s : State). s.files.image_b) a.does.rest) w
   moves_keep (move.Act action) given new k a = same_written past (past_after past (move.Act action) given) old new refl a.does w
   moves_keep (move.Get cell) given new k a = same_written past (past_after past (move.Get cell) given) old new refl a.does w
   moves_keep move.End (answer.Ended tick) new k a = tick_written past (past_after past move.End (answer.Ended tick)) old new k a.does w
   moves_keep move.End given new k a = same_written past (past_after past move.End given) old new refl a.does w
   moves_keep move.Mark (answer.Started tick) new k a =
       still_written past (past_after past move.Mark (answer.Started tick)) old new refl (ap (λ (s : State). s.log) a.does.1) (ap (λ (s : State). s.images.newest) a.does.1)
-      (ap (λ (s : State). s.log_a) a.does.1) (ap (λ (s : State). s.log_b) a.does.1) (ap (λ (s : State). s.image_a) a.does.1) (ap (λ (s : State). s.image_b) a.does.1) w
+      (ap (λ (s : State). s.files.log_a) a.does.1) (ap (λ (s : State). s.files.log_b) a.does.1) (ap (λ (s : State). s.files.image_a) a.does.1) (ap (λ (s : State). s.files.image_b) a.does.1) w
   moves_keep move.Mark given new k a = same_written past (past_after past move.Mark given) old new refl a.does w
-  moves_keep (move.Image fate) (answer.Image given) new k a = image_written keepers outcomes past (past_after past (move.Image fate) (answer.Image given)) fate old given new refl c a.does w
+  moves_keep (move.Image fate) (answer.Image given) new k a = image_written keepers past (past_after past (move.Image fate) (answer.Image given)) fate old given new refl c a.does w
   moves_keep (move.Image fate) given new k a = same_written past (past_after past (move.Image fate) given) old new refl a.does w
   moves_keep (move.Log fate) (answer.Log given) new k a = elim a.does [
     | inl waits ↦ same_written past (past_after past (move.Log fate) (answer.Log given)) old new refl waits.2 w
-    | inr step ↦ log_written outcomes past (past_after past (move.Log fate) (answer.Log given)) fate old given new refl c step w
+    | inr step ↦ log_written keepers past (past_after past (move.Log fate) (answer.Log given)) fate old given new refl c step w
   ]
   moves_keep (move.Log fate) given new k a = same_written past (past_after past (move.Log fate) given) old new refl a.does w
   moves_keep (move.Cover tick) (answer.Log given) new k a =
       still_written past (past_after past (move.Cover tick) (answer.Log given)) old new refl (ap (λ (s : State). s.log) a.does.rest) (ap (λ (s : State). s.images.newest) a.does.rest)
-      (ap (λ (s : State). s.log_a) a.does.rest) (ap (λ (s : State). s.log_b) a.does.rest) (ap (λ (s : State). s.image_a) a.does.rest) (ap (λ (s : State). s.image_b) a.does.rest) w
+      (ap (λ (s : State). s.files.log_a) a.does.rest) (ap (λ (s : State). s.files.log_b) a.does.rest) (ap (λ (s : State). s.files.image_a) a.does.rest)
+      (ap (λ (s : State). s.files.image_b) a.does.rest) w
   moves_keep (move.Cover tick) given new k a = same_written past (past_after past (move.Cover tick) given) old new refl a.does w
   moves_keep (move.Crash left) (answer.Recovered tick from) new k a =
       recovered_written (past_after past (move.Crash left) (answer.Recovered tick from)) tick from left.image_a.items left.image_b.items left.log_a.items left.log_b.items new refl a.exact.0 a.does
   moves_keep (move.Crash left) answer.Blank new k a =
-      begun_written old.cells None 0 _ true left.image_a.items left.image_b.items left.log_a.items left.log_b.items (past_after past (move.Crash left) answer.Blank) new a.does.1
+      begun_written None 0 _ left.image_a.items left.image_b.items left.log_a.items left.log_b.items (past_after past (move.Crash left) answer.Blank) new a.does.1
       (λ some. absurd (omega (arith, some))) (λ some. absurd (omega (arith, some)))
   moves_keep (move.Crash left) given new k a = same_written past (past_after past (move.Crash left) given) old new refl a.does w
 
 pub fresh_written : (cells : ℕ) (state : State) → BeginsFresh cells state → AreWritten fresh_past state
 fresh_written cells state b =
-    begun_written cells None 0 (replicate cells 0) true [] [] [] [] fresh_past state b (λ some. absurd (omega (arith, some))) (λ some. absurd (omega (arith, some)))
+    begun_written None 0 (replicate cells 0) [] [] [] [] fresh_past state b (λ some. absurd (omega (arith, some))) (λ some. absurd (omega (arith, some)))
 
-pub stay_written : KeeperLaws → OutcomeLaws → SafetyLaws → StayWritten
-stay_written keepers outcomes safety = record {
+pub stay_written : SafetyLaws → StayWritten
+stay_written safety = record {
   fresh = fresh_written;
-  moves = λ past old asked given new c k a w. moves_keep keepers outcomes safety past old c w asked given new k a;
-  none_empty = none_is_empty keepers outcomes safety;
+  moves = λ past old asked given new c k a w. moves_keep safety.keepers safety past old c w asked given new k a;
+  none_empty = none_is_empty safety.keepers safety;
 }

@@ -24,7 +24,8 @@ use Rattle.action_log.specs.Progress.{work_of}
 use Rattle.action_log.specs.Cover.{uncovered, cover_answer}
 use Rattle.world_core.specs.Standing.{Standing, is_starting, is_round_open, is_log_waiting}
 use Rattle.world_core.specs.Standing.{unless_refused, action_answer, get_answer, end_answer}
-use Rattle.world_core.specs.Standing.{tick_refusal, mark_refusal_at, cover_refusal_at}
+use Rattle.world_core.specs.Standing.{mark_refusal_at, cover_refusal_at}
+use Rattle.engine.specs.Refusals.{tick_refusal}
 use Rattle.world_core.specs.Past.{Past}
 use Rattle.world_core.specs.State.{State, files_in}
 

@@ -42,7 +42,7 @@ Headline cells moves answers files =
 abbrev pub CoresAreSafe : Type 0
 CoresAreSafe =
     (past : Past) (state : State) → IsCoreAt past state
-    → AreSafe past.has_image (files_in state) (replicate state.cells 0)
+    → AreSafe past.has_image (files_in state) (replicate state.images.cells 0)
     past.history.ticks past.acknowledged
 
 -- before the first image recovery finds no image, or gives the first words at tick 0

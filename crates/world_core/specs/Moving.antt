@@ -1,10 +1,7 @@
 -- The effect of each move on the state of a core.
-use Rattle.std.specs.Prelude.{◌≡◌, ◌↔◌, ◌⊎◌, ◌<◌, Option, Some, None, ℕ, ◌+◌, Bool, List, [], ◌∷◌}
-use Rattle.std.specs.Prelude.{◌++◌, length, true, false, ◌&&◌, Ok}
-use Rattle.world_actions.specs.declared.action.Action.{Action}
-use Rattle.world_actions.specs.Effect.{writes_of}
-use Rattle.world_ticks.specs.Tick.{Actions, decision}
-use Rattle.capture_core.specs.Content.{content_after, Marks, Takes, Covers}
+use Rattle.std.specs.Prelude.{◌≡◌, ◌↔◌, ◌⊎◌, ◌<◌, Option, Some, None, ℕ, ◌+◌, Bool, true, false}
+use Rattle.std.specs.Prelude.{◌&&◌, [], ◌++◌}
+use Rattle.capture_core.specs.Content.{Takes}
 use Rattle.file_format.specs.Slot.{of_slot}
 use Rattle.disk_model.specs.Disk.{last_count, Call}
 use Rattle.disk_model.specs.FileState.{Calls}
@@ -13,54 +10,30 @@ use Rattle.image_files.specs.declared.phase.Phase.{Phase}
 use Rattle.image_files.specs.declared.phase.Phase.TheVariants.{Idle, Taking, Down}
 use Rattle.image_files.specs.declared.answer.ImageAnswer.{ImageAnswer}
 use Rattle.image_files.specs.declared.answer.ImageAnswer.TheVariants as image_answer
-use Rattle.image_files.specs.Progress.{target_of, begun_keeper, opened_keeper, left_of, cells_taken}
+use Rattle.image_files.specs.Progress.{target_of, opened_keeper, left_of}
 use Rattle.image_files.specs.Steps.{IfOpened, OnWorking, CallsIn as ImageCallsIn}
 use Rattle.image_files.specs.Images.{ImageFiles, StepsImages}
 use Rattle.action_log.specs.declared.phase.Phase.TheVariants.{Ready, GateSync}
 use Rattle.action_log.specs.declared.answer.LogAnswer.{LogAnswer}
 use Rattle.action_log.specs.declared.answer.LogAnswer.TheVariants as log_answer
-use Rattle.action_log.specs.declared.record.Record.TheVariants as records
 use Rattle.action_log.specs.Progress.{QueueFollows, end_of, work_of, taken}
 use Rattle.action_log.specs.Calls.{CallsIn as LogCallsIn}
 use Rattle.action_log.specs.Logs.{LogPlace}
 use Rattle.action_log.specs.LogSteps.{JournalStep}
-use Rattle.action_log.specs.Cover.{uncovered, cover_answer}
 use Rattle.world_core.specs.declared.moves.Fate.{Fate}
 use Rattle.world_core.specs.declared.moves.Fate.TheVariants as fate_
 use Rattle.world_core.specs.declared.moves.Move.{Move}
 use Rattle.world_core.specs.declared.moves.Move.TheVariants as move
 use Rattle.world_core.specs.declared.moves.Answer.{Answer}
 use Rattle.world_core.specs.declared.moves.Answer.TheVariants as answer
-use Rattle.world_core.specs.State.{File, State, HasImages, HasLog, failures, HasFailed, is_in_round}
+use Rattle.engine.specs.Refusals.{is_in_round}
+use Rattle.engine.specs.Steps.{DoesAction, EndsTick, BeginsRound, CoversQueue}
+use Rattle.world_core.specs.State.{File, State, HasImages, HasLog, failures, HasFailed}
 use Rattle.world_core.specs.Starting.{StandsOn}
 
--- an action is done
-pub record DoesAction (old : State) (action : Action) (new : State) : Type 0 where
-  pub decided : decision old.content.live old.running action ≡ Ok new.content.live
-  pub content : new.content ≡ content_after old.content (writes_of old.content.live action)
-  pub rest : new ≡ record old { content = new.content; running = old.running ++ action ∷ [] }
-  pub cells : length new.content.live ≡ length old.content.live
-  pub covers : (image : List ℕ) → Covers image old.content → Covers image new.content
-
--- the running tick ends, and is queued
-abbrev pub EndsTick : (old new : State) → Type 0
-EndsTick old new = (tick : Actions) × (tick.list ≡ old.running)
-    × (new ≡ record old {
-      running = [];
-      ended = old.ended + 1;
-      since = old.since + 1;
-      queue = old.queue ++ records.Tick tick ∷ [];
-    })
-
--- the store is marked, and the round of the ended ticks begins
-abbrev pub BeginsRound : (old new : State) → Type 0
-BeginsRound old new = Marks old.content new.content
-    × (new ≡ record old {
-      content = new.content;
-      since = 0;
-      images = begun_keeper old.ended old.images;
-      queue = old.queue ++ records.Switch old.ended ∷ [];
-    })
+abbrev pub is_failed : Fate → Bool
+is_failed fate_.Done = false
+is_failed fate_.Failed = true
 
 -- how many calls of a file are left to the file itself before one is made to fail, if one is
 abbrev pub calls_before_failure : Fate → Option ℕ
@@ -96,8 +69,7 @@ pub record StepsImageKeeper (fate : Fate) (old : State) (given : ImageAnswer)
   pub rest : new ≡ record old {
     content = new.content;
     images = new.images;
-    image_a = new.image_a;
-    image_b = new.image_b;
+    files = record old.files { image_a = new.files.image_a; image_b = new.files.image_b };
   }
   pub stands : (images : ImageFiles) → HasImages old images
       → (next : ImageFiles) × HasImages new next
@@ -107,26 +79,28 @@ pub record StepsImageKeeper (fate : Fate) (old : State) (given : ImageAnswer)
   pub down : (given ≡ image_answer.Down) ↔ (new.images.phase ≡ Down)
   pub stays_down : old.images.phase ≡ Down → given ≡ image_answer.Down
   pub cause : given ≡ image_answer.Down
-      → (old.images.phase ≡ Down) ⊎ HasFailed old.image_a new.image_a old.image_b new.image_b
-  pub fails : FailsBy fate (given ≡ image_answer.Down) (CallsNone old.images.phase) old.image_a
-      old.image_b new.image_a new.image_b
+      → (old.images.phase ≡ Down) ⊎ HasFailed old.files.image_a new.files.image_a old.files.image_b
+      new.files.image_b
+  pub fails : FailsBy fate (given ≡ image_answer.Down) (CallsNone old.images.phase)
+      old.files.image_a old.files.image_b new.files.image_a new.files.image_b
   -- The phase decides: no file is called, or one file once, either the one that the round writes or
   -- the newest image's.
   pub calls : ImageCallsIn old.images.phase (CallsBy fate)
-      (of_slot (target_of old.images.newest) old.image_a old.image_b)
-      (of_slot (target_of old.images.newest) new.image_a new.image_b)
-      (of_slot (target_of old.images.newest) old.image_b old.image_a)
-      (of_slot (target_of old.images.newest) new.image_b new.image_a)
-  -- Working leaves less work, unless a take gave no cell while cells were still to be taken.
-  pub working : OnWorking given ((left_of new.images < left_of old.images)
-      ⊎ ((cells_taken old.images < old.images.cells) × Takes old.content None new.content))
+      (of_slot (target_of old.images.newest) old.files.image_a old.files.image_b)
+      (of_slot (target_of old.images.newest) new.files.image_a new.files.image_b)
+      (of_slot (target_of old.images.newest) old.files.image_b old.files.image_a)
+      (of_slot (target_of old.images.newest) new.files.image_b new.files.image_a)
+  pub working : OnWorking given (left_of new.images < left_of old.images)
   pub opened : IfOpened given (new.images ≡ opened_keeper old.images) (Unit {0})
 
 -- a step of the log keeper
 pub record StepsLogKeeper (fate : Fate) (old : State) (given : LogAnswer)
     (new : State) : Type 0 where
-  pub rest : new
-      ≡ record old { queue = new.queue; log = new.log; log_a = new.log_a; log_b = new.log_b }
+  pub rest : new ≡ record old {
+    queue = new.queue;
+    log = new.log;
+    files = record old.files { log_a = new.files.log_a; log_b = new.files.log_b };
+  }
   pub front : old.queue ≡ taken old.log old.queue ++ new.queue
   pub stands : (place : LogPlace) → HasLog old place
       → (next : LogPlace) × HasLog new next × JournalStep place old.queue given next new.queue
@@ -139,25 +113,22 @@ pub record StepsLogKeeper (fate : Fate) (old : State) (given : LogAnswer)
       × (tick ≡ new.log.base + new.log.count))
   pub down : (given ≡ log_answer.Down) ↔ (new.log.down ≡ true)
   pub rests : (given ≡ log_answer.Idle) ⊎ (old.log.down ≡ true) → (new.log ≡ old.log)
-      × (new.queue ≡ old.queue) × (new.log_a ≡ old.log_a) × (new.log_b ≡ old.log_b)
+      × (new.queue ≡ old.queue) × (new.files.log_a ≡ old.files.log_a)
+      × (new.files.log_b ≡ old.files.log_b)
   -- The phase and the record in front decide: no file is called, or one file once, either the
   -- current segment's or the other one.
   pub calls : old.log.down ≡ false → LogCallsIn (CallsBy fate)
-      (of_slot old.log.current old.log_a old.log_b) (of_slot old.log.current new.log_a new.log_b)
-      (of_slot old.log.current old.log_b old.log_a)
-      (of_slot old.log.current new.log_b new.log_a) old.log.phase old.queue
+      (of_slot old.log.current old.files.log_a old.files.log_b)
+      (of_slot old.log.current new.files.log_a new.files.log_b)
+      (of_slot old.log.current old.files.log_b old.files.log_a)
+      (of_slot old.log.current new.files.log_b new.files.log_a) old.log.phase old.queue
   pub cause : given ≡ log_answer.Down
-      → (old.log.down ≡ true) ⊎ HasFailed old.log_a new.log_a old.log_b new.log_b
-  pub fails : FailsBy fate (given ≡ log_answer.Down) (given ≡ log_answer.Idle) old.log_a
-      old.log_b new.log_a new.log_b
+      → (old.log.down ≡ true) ⊎ HasFailed old.files.log_a new.files.log_a old.files.log_b
+      new.files.log_b
+  pub fails : FailsBy fate (given ≡ log_answer.Down) (given ≡ log_answer.Idle) old.files.log_a
+      old.files.log_b new.files.log_a new.files.log_b
   pub lowers : new.log.down ≡ false → 0 < work_of old.log old.queue
       → work_of new.log new.queue < work_of old.log old.queue
-
--- the records before the switch at this tick leave the queue
-pub record CoversQueue (tick : ℕ) (old : State) (given : LogAnswer) (new : State) : Type 0 where
-  pub answer : given ≡ cover_answer old.log tick old.queue
-  pub rest : new ≡ record old { queue = new.queue }
-  pub left : new.queue ≡ uncovered old.log tick old.queue
 
 -- the log's part of a start waits for the image
 abbrev pub Waits : State → Type 0
@@ -174,9 +145,10 @@ Does (move.Log fate) old (answer.Log given) new =
     (Waits old × (given ≡ log_answer.Idle) × (new ≡ old)) ⊎ StepsLogKeeper fate old given new
 Does (move.Cover tick) old (answer.Log given) new = CoversQueue tick old given new
 Does (move.Crash left) old (answer.Recovered tick from) new =
-    StandsOn old.cells left.image_a.items left.image_b.items left.log_a.items left.log_b.items
+    StandsOn old.images.cells left.image_a.items left.image_b.items left.log_a.items
+    left.log_b.items
     (answer.Recovered tick from) new
 Does (move.Crash left) old answer.Blank new =
-    StandsOn old.cells left.image_a.items left.image_b.items left.log_a.items
+    StandsOn old.images.cells left.image_a.items left.image_b.items left.log_a.items
     left.log_b.items answer.Blank new
 Does asked old given new = new ≡ old

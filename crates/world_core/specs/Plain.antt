@@ -80,7 +80,7 @@ AreAnswered cells past (asked ∷ moves) (given ∷ answers) =
 unfoldable pub HasRun : (cells : ℕ) → List Move → List Answer → State → Type 0
 HasRun cells moves answers state =
     IsCoreAt (past_of fresh_past moves answers) state
-    × (length answers ≡ length moves) × (state.cells ≡ cells)
+    × (length answers ≡ length moves) × (state.images.cells ≡ cells)
     × ((first : State) × BeginsFresh cells first × Runs fresh_past first moves answers state)
     × AreAnswered cells fresh_past moves answers
     × AreWritten (past_of fresh_past moves answers) state

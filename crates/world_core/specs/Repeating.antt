@@ -129,14 +129,14 @@ StartSettled standing =
 
 -- the file of this name
 abbrev pub file_in : FileName → State → FileState
-file_in ImageA state = state.image_a.inner
-file_in ImageB state = state.image_b.inner
-file_in LogA state = state.log_a.inner
-file_in LogB state = state.log_b.inner
+file_in ImageA state = state.files.image_a.inner
+file_in ImageB state = state.files.image_b.inner
+file_in LogA state = state.files.log_a.inner
+file_in LogB state = state.files.log_b.inner
 
 -- the bytes that such a crash leaves of each file
 pub record AreLeft (leaving : Leaving) (state : State) (left : Remains) : Type 0 where
-  pub image_a : left.image_a.items ≡ left_by leaving state.image_a.inner
-  pub image_b : left.image_b.items ≡ left_by leaving state.image_b.inner
-  pub log_a : left.log_a.items ≡ left_by leaving state.log_a.inner
-  pub log_b : left.log_b.items ≡ left_by leaving state.log_b.inner
+  pub image_a : left.image_a.items ≡ left_by leaving state.files.image_a.inner
+  pub image_b : left.image_b.items ≡ left_by leaving state.files.image_b.inner
+  pub log_a : left.log_a.items ≡ left_by leaving state.files.log_a.inner
+  pub log_b : left.log_b.items ≡ left_by leaving state.files.log_b.inner

@@ -1,21 +1,20 @@
 -- The state of core and keepers as far as moves and their answers show it, and the
 -- refusal that holds.
-use Rattle.std.specs.Prelude.{ℕ, ◌+◌, ◌-◌, List, [], ◌∷◌, ◌++◌, length, Bool, true, false, not}
-use Rattle.std.specs.Prelude.{nat_eq, nat_lt, nat_le, ◌&&◌, Option, Some, None, is_some, Result, Ok}
+use Rattle.std.specs.Prelude.{ℕ, ◌+◌, ◌-◌, List, [], ◌∷◌, ◌++◌, Bool, true, false}
+use Rattle.std.specs.Prelude.{nat_lt, nat_le, ◌&&◌, Option, Some, None, is_some, Result, Ok}
 use Rattle.std.specs.Prelude.{Err, slice_index, if◌then◌else◌}
 use Rattle.world_actions.specs.declared.action.Action.{Action}
 use Rattle.world_actions.specs.declared.refusal.Refusal.{Refusal}
-use Rattle.world_actions.specs.declared.refusal.Refusal.TheVariants.{BadCell, QueueFull, OpenTick}
-use Rattle.world_actions.specs.declared.refusal.Refusal.TheVariants.{Busy, NothingNew, ImageDown}
-use Rattle.world_actions.specs.declared.refusal.Refusal.TheVariants.{LogDown, Starting, Uncovered}
+use Rattle.world_actions.specs.declared.refusal.Refusal.TheVariants.{BadCell, QueueFull}
 use Rattle.world_actions.specs.Effect.{is_outside}
 use Rattle.action_log.specs.declared.record.Record.{Record}
 use Rattle.action_log.specs.declared.record.Record.TheVariants as record_
 use Rattle.action_log.specs.declared.answer.LogAnswer.TheVariants as log_answer
 use Rattle.action_log.specs.Logs.{start_moves}
-use Rattle.action_log.specs.Refusals.{tick_refusal as log_tick_refusal}
 use Rattle.image_files.specs.declared.answer.ImageAnswer.TheVariants as image_answer
 use Rattle.restart.specs.Start.{is_shut}
+use Rattle.restart.specs.declared.start.TheConstants.{QUEUE_RECORDS}
+use Rattle.engine.specs.Refusals.{mark_refusal, cover_refusal}
 use Rattle.world_core.specs.declared.moves.Move.{Move}
 use Rattle.world_core.specs.declared.moves.Move.TheVariants as move
 use Rattle.world_core.specs.declared.moves.Answer.{Answer}
@@ -29,10 +28,6 @@ pub data Queued : Type 0 where
 abbrev pub queued_of : Record → Queued
 queued_of (record_.Tick tick) = QueuedTick tick.list
 queued_of (record_.Switch tick) = QueuedSwitch tick
-
--- how many records may be queued
-abbrev pub queue_most : ℕ
-queue_most = 64
 
 -- The tick of the newest image, 0 before the first. The tick of the open round. Which keeper is
 -- down. How many Log moves the start has left. How many ticks ended since the last mark or start.
@@ -101,33 +96,7 @@ is_round_open standing = is_some standing.round
 abbrev pub is_log_waiting : Standing → Bool
 is_log_waiting standing = is_starting standing && is_round_open standing
 
--- ---- the refusals: the first line that holds
-
--- the refusal of an action or of the tick's end, if one holds
-abbrev pub tick_refusal : (is_starting is_log_down : Bool) → (ended since : ℕ) → Option Refusal
-tick_refusal is_starting is_log_down ended since =
-    if is_starting then Some Starting else log_tick_refusal is_log_down ended since
-
--- the refusal of a mark, if one holds
-abbrev pub mark_refusal : (is_starting is_log_down is_image_down is_round_open : Bool)
-    → (ended newest queued : ℕ) → (running : List Action) → Option Refusal
-mark_refusal is_starting is_log_down is_image_down is_round_open ended newest queued running =
-    if is_starting then Some Starting else
-    if is_log_down then Some LogDown else
-    if is_image_down then Some ImageDown else
-    if not (nat_eq (length running) 0) then Some OpenTick else
-    if is_round_open then Some Busy else
-    if nat_eq ended newest then Some NothingNew else
-    if nat_le queue_most queued then Some QueueFull else
-    None
-
--- the refusal of a cover, if one holds
-abbrev pub cover_refusal : (is_starting is_log_down : Bool) → (newest tick : ℕ) → Option Refusal
-cover_refusal is_starting is_log_down newest tick =
-    if is_starting then Some Starting else
-    if is_log_down then Some LogDown else
-    if nat_lt newest tick then Some Uncovered else
-    None
+-- ---- refusals
 
 -- an answer, unless this refusal holds
 abbrev pub unless_refused : Option Refusal → Answer → Answer
@@ -146,7 +115,7 @@ get_answer words cell =
 abbrev pub end_answer : Option Refusal → (ended queued : ℕ) → Answer
 end_answer refusal ended queued =
     unless_refused refusal
-    (if nat_le queue_most queued then answer.Refused QueueFull else answer.Ended (ended + 1))
+    (if nat_le QUEUE_RECORDS queued then answer.Refused QueueFull else answer.Ended (ended + 1))
 
 -- the refusals by the state of core and keepers
 abbrev pub mark_refusal_at : Standing → (ended queued : ℕ)

@@ -35,11 +35,12 @@ IsWritten count file = count ≤ length file.durable
 -- ended. The headers of both images are written if the newest one is of a tick above 0.
 pub record AreWritten (past : Past) (state : State) : Type 0 where
   pub started : state.log.starting ≡ false
-      → IsWritten LOG_HEADER state.log_a.inner × IsWritten 1 state.log_b.inner
+      → IsWritten LOG_HEADER state.files.log_a.inner × IsWritten 1 state.files.log_b.inner
   pub ticked : 0 < length past.history.ticks
-      → IsWritten LOG_HEADER state.log_a.inner × IsWritten 1 state.log_b.inner
+      → IsWritten LOG_HEADER state.files.log_a.inner × IsWritten 1 state.files.log_b.inner
   pub imaged : 0 < newest_tick state.images.newest
-      → IsWritten IMAGE_HEADER state.image_a.inner × IsWritten IMAGE_HEADER state.image_b.inner
+      → IsWritten IMAGE_HEADER state.files.image_a.inner
+      × IsWritten IMAGE_HEADER state.files.image_b.inner
 
 -- a fresh core has these facts, each move keeps them, and no crash leaves an empty file of a
 -- core that has them

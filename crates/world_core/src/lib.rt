@@ -9,7 +9,6 @@
 
 mod laws;
 mod moves;
-mod parts;
 mod running;
 mod world_core;
 

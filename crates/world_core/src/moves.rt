@@ -12,6 +12,21 @@ pub enum Fate {
     Failed,
 }
 
+impl Fate {
+    ghost use Rattle.std.specs.Prelude.{◌≡◌};
+    ghost use Rattle.world_core.specs.Moving.{is_failed};
+
+    /// True if the call fails, whatever the device.
+    pub fn is_failed(self) -> bool
+        ensures { result ≡ is_failed self }
+    {
+        match self {
+            Fate::Done => false,
+            Fate::Failed => true,
+        }
+    }
+}
+
 /// One request to a core.
 #[derive(Drop)]
 pub enum Move {

@@ -28,20 +28,20 @@ pub fn run<C: Capture>(
 ) -> Result<(Vec<Answer>, Core<C>), Refusal>
     requires { (1 ≤ cells) × (cells ≤ CELLS) }
     ensures headline { IfOk result (λ r. Headline cells moves.items r.0.items (record {
-      image_a = r.1.image_a.inner;
-      image_b = r.1.image_b.inner;
-      log_a = r.1.log_a.inner;
-      log_b = r.1.log_b.inner;
+      image_a = r.1.files.image_a.inner;
+      image_b = r.1.files.image_b.inner;
+      log_a = r.1.files.log_a.inner;
+      log_b = r.1.files.log_b.inner;
     })) }
     ensures written { IfOk result (λ r. NoneIsEmpty (record {
-      image_a = r.1.image_a.inner;
-      image_b = r.1.image_b.inner;
-      log_a = r.1.log_a.inner;
-      log_b = r.1.log_b.inner;
+      image_a = r.1.files.image_a.inner;
+      image_b = r.1.files.image_b.inner;
+      log_a = r.1.files.log_a.inner;
+      log_b = r.1.files.log_b.inner;
     })) }
     ensures plain { IfOk result (λ r. AreAnswered cells fresh_past moves.items r.0.items) }
     ensures stands { IfOk result (λ r. IsCoreAt (past_of fresh_past moves.items r.0.items) r.1) }
-    ensures cells { IfOk result (λ r. r.1.cells ≡ cells) }
+    ensures cells { IfOk result (λ r. r.1.images.cells ≡ cells) }
     ensures answers { IfOk result (λ r. (first : State) × BeginsFresh cells first
         × Runs fresh_past first moves.items r.0.items r.1) }
     ensures memory { IfErr result (λ refusal. refusal ≡ Refusal.NoMemory) }

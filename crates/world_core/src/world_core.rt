@@ -1,4 +1,5 @@
-ghost use Rattle.std.specs.Prelude.{◌≡◌, ◌≤◌, IfOk, IfErr};
+ghost use Rattle.std.specs.Prelude.{◌≡◌, ◌≤◌, ◌&&◌, IfOk, IfErr};
+ghost use Rattle.engine.specs.Refusals.{is_in_round};
 ghost use Rattle.world_actions.specs.declared.world.TheConstants.{CELLS};
 ghost use Rattle.world_core.specs.Standing.{is_starting};
 ghost use Rattle.world_core.specs.Past.{Past, past_after, fresh_past};
@@ -7,17 +8,18 @@ ghost use Rattle.world_core.specs.Moving.{Does};
 ghost use Rattle.world_core.specs.Exact.{IsExact, Progresses};
 ghost use Rattle.world_core.specs.Facts.{IsCoreAt};
 
-use crate::laws::{event_laws, keeper_laws, queue_laws, safety_laws};
+use crate::laws::{File, safety_laws};
 use crate::moves::{Answer, Fate, Move, Remains};
-use crate::parts::Parts;
 use action_log::LogAnswer;
 use capture_core::Capture;
+use engine::{Engine, event_laws, keeper_laws};
 use image_files::ImageAnswer;
 use restart::zeros;
 use std::alloc::Global;
 use std::marker::Model;
 use world_actions::{Action, Refusal};
 
+mod beginning;
 mod files;
 mod repeating;
 
@@ -25,19 +27,21 @@ mod repeating;
 /// Contracts see it as a `State`, whatever its store.
 #[derive(Drop)]
 pub struct Core<C: Capture> {
-    parts: Parts<C>,
+    alloc: Global,
+    engine: Engine<C, File>,
 }
 
 impl<C: Capture> Model for Core<C> {
-    ghost use Rattle.world_core.specs.State.{State};
+    ghost use Rattle.world_core.specs.State.{State, AreUnarmed};
     ghost use Rattle.world_core.specs.Past.{Past};
     ghost use Rattle.world_core.specs.Facts.{IsCoreAt};
 
     ghost Value = { State };
 
-    ghost view = { λ core. core.parts };
+    ghost view = { λ core. core.engine };
 
-    ghost invariant = { λ core. (past : Past) × IsCoreAt past core.parts };
+    ghost invariant = { λ core. AreUnarmed core.engine.files
+        × ((past : Past) × IsCoreAt past core.engine) };
 }
 
 impl<C: Capture> Core<C> {
@@ -49,27 +53,27 @@ impl<C: Capture> Core<C> {
         ensures memory { IfErr result (λ refusal. refusal ≡ Refusal.NoMemory) }
     {
         event_laws();
-        queue_laws();
-        keeper_laws();
+        safety_laws();
         let words = zeros(alloc, cells)?;
-        let parts = Parts::begin(alloc, cells, None, 0, &words, Remains::none(alloc))?;
-        Ok(Core { parts })
+        let engine = Core::begin(alloc, None, 0, &words, Remains::none(alloc))?;
+        engine.in_order();
+        Ok(Core { alloc, engine })
     }
 
     /// True if the start has not ended.
     pub fn starting(&self) -> bool
         ensures { (past : Past) → IsCoreAt past self.now → result ≡ is_starting past.standing }
     {
-        keeper_laws();
-        self.parts.starting()
+        keeper_laws::<File>();
+        self.engine.is_starting()
     }
 
     /// The tick of the newest image, 0 before the first.
     pub fn newest_tick(&self) -> u64
         ensures { (past : Past) → IsCoreAt past self.now → result ≡ past.standing.newest }
     {
-        keeper_laws();
-        self.parts.newest_tick()
+        keeper_laws::<File>();
+        self.engine.newest_tick()
     }
 
     /// Makes one move. All that moves and answers say of ticks, images and keepers stays true of
@@ -81,7 +85,7 @@ impl<C: Capture> Core<C> {
             → IsExact past self.old asked result }
         ensures does { Does asked self.old result self.new }
         ensures progress { Progresses asked result self.old self.new }
-        ensures cells { self.new.cells ≡ self.old.cells }
+        ensures cells { self.new.images.cells ≡ self.old.images.cells }
         ensures refused { (refusal : _) → result ≡ Answer.Refused refusal → self.new ≡ self.old }
     {
         match asked {
@@ -102,16 +106,19 @@ impl<C: Capture> Core<C> {
         ensures exact { (past : Past) → IsCoreAt past self.old
             → IsExact past self.old (Move.Act action) result }
         ensures does { Does (Move.Act action) self.old result self.new }
-        ensures cells { self.new.cells ≡ self.old.cells }
+        ensures cells { self.new.images.cells ≡ self.old.images.cells }
         ensures refused { (refusal : _) → result ≡ Answer.Refused refusal → self.new ≡ self.old }
     {
         event_laws();
-        keeper_laws();
-        if let Some(refusal) = self.parts.tick_refusal() {
+        keeper_laws::<File>();
+        if let Some(refusal) = self.engine.tick_refusal() {
             return Answer::Refused(refusal);
         }
-        match self.parts.act(action) {
-            Ok(()) => Answer::Did,
+        match self.engine.act(action) {
+            Ok(()) => {
+                self.engine.in_order();
+                Answer::Did
+            }
             Err(refusal) => Answer::Refused(refusal),
         }
     }
@@ -123,7 +130,10 @@ impl<C: Capture> Core<C> {
             → IsExact past self.old (Move.Get cell) result }
         ensures same { self.new ≡ self.old }
     {
-        self.parts.get(cell)
+        match self.engine.read(cell) {
+            Ok(word) => Answer::Word(word),
+            Err(refusal) => Answer::Refused(refusal),
+        }
     }
 
     fn end(&mut self) -> Answer
@@ -132,19 +142,20 @@ impl<C: Capture> Core<C> {
         ensures exact { (past : Past) → IsCoreAt past self.old
             → IsExact past self.old Move.End result }
         ensures does { Does Move.End self.old result self.new }
-        ensures cells { self.new.cells ≡ self.old.cells }
+        ensures cells { self.new.images.cells ≡ self.old.images.cells }
         ensures refused { (refusal : _) → result ≡ Answer.Refused refusal → self.new ≡ self.old }
     {
         event_laws();
-        queue_laws();
-        keeper_laws();
-        if let Some(refusal) = self.parts.tick_refusal() {
+        keeper_laws::<File>();
+        if let Some(refusal) = self.engine.tick_refusal() {
             return Answer::Refused(refusal);
         }
-        if self.parts.queue_is_full() {
+        if self.engine.queue_is_full() {
             return Answer::Refused(Refusal::QueueFull);
         }
-        Answer::Ended(self.parts.end())
+        let tick = self.engine.end();
+        self.engine.in_order();
+        Answer::Ended(tick)
     }
 
     fn mark(&mut self) -> Answer
@@ -153,16 +164,17 @@ impl<C: Capture> Core<C> {
         ensures exact { (past : Past) → IsCoreAt past self.old
             → IsExact past self.old Move.Mark result }
         ensures does { Does Move.Mark self.old result self.new }
-        ensures cells { self.new.cells ≡ self.old.cells }
+        ensures cells { self.new.images.cells ≡ self.old.images.cells }
         ensures refused { (refusal : _) → result ≡ Answer.Refused refusal → self.new ≡ self.old }
     {
         event_laws();
-        queue_laws();
-        keeper_laws();
-        if let Some(refusal) = self.parts.mark_refusal() {
+        keeper_laws::<File>();
+        if let Some(refusal) = self.engine.mark_refusal() {
             return Answer::Refused(refusal);
         }
-        Answer::Started(self.parts.begin_round())
+        let tick = self.engine.begin_round();
+        self.engine.in_order();
+        Answer::Started(tick)
     }
 
     fn image(&mut self, fate: Fate) -> ImageAnswer
@@ -171,12 +183,23 @@ impl<C: Capture> Core<C> {
         ensures exact { (past : Past) → IsCoreAt past self.old
             → IsExact past self.old (Move.Image fate) (Answer.Image result) }
         ensures does { Does (Move.Image fate) self.old (Answer.Image result) self.new }
-        ensures cells { self.new.cells ≡ self.old.cells }
+        ensures cells { self.new.images.cells ≡ self.old.images.cells }
         ensures progress { Progresses (Move.Image fate) (Answer.Image result) self.old self.new }
     {
         event_laws();
-        keeper_laws();
-        self.parts.move_images(fate)
+        keeper_laws::<File>();
+        self.engine.arm_images(fate.is_failed());
+        let given = self.engine.step_images();
+        self.engine.arm_images(false);
+        self.engine.in_order();
+        given
+    }
+
+    // True if the log's part of the start waits for the image.
+    fn log_waits(&self) -> bool
+        ensures { result ≡ (self.now.log.starting && is_in_round self.now.images.phase) }
+    {
+        self.engine.is_starting() && self.engine.round_is_open()
     }
 
     // In a start the log waits until the image is open.
@@ -186,15 +209,19 @@ impl<C: Capture> Core<C> {
         ensures exact { (past : Past) → IsCoreAt past self.old
             → IsExact past self.old (Move.Log fate) (Answer.Log result) }
         ensures does { Does (Move.Log fate) self.old (Answer.Log result) self.new }
-        ensures cells { self.new.cells ≡ self.old.cells }
+        ensures cells { self.new.images.cells ≡ self.old.images.cells }
         ensures progress { Progresses (Move.Log fate) (Answer.Log result) self.old self.new }
     {
         event_laws();
-        keeper_laws();
-        if self.parts.log_waits() {
+        keeper_laws::<File>();
+        if self.log_waits() {
             return LogAnswer::Idle;
         }
-        self.parts.move_log(fate)
+        self.engine.arm_log(fate.is_failed());
+        let given = self.engine.step_log();
+        self.engine.arm_log(false);
+        self.engine.in_order();
+        given
     }
 
     // Records that the image of this tick has need no logging.
@@ -205,15 +232,17 @@ impl<C: Capture> Core<C> {
             → IsExact past self.old (Move.Cover tick) result }
         ensures does { Does (Move.Cover tick) self.old result self.new }
         ensures progress { Progresses (Move.Cover tick) result self.old self.new }
-        ensures cells { self.new.cells ≡ self.old.cells }
+        ensures cells { self.new.images.cells ≡ self.old.images.cells }
         ensures refused { (refusal : _) → result ≡ Answer.Refused refusal → self.new ≡ self.old }
     {
         event_laws();
-        keeper_laws();
-        if let Some(refusal) = self.parts.cover_refusal(tick) {
+        keeper_laws::<File>();
+        if let Some(refusal) = self.engine.cover_refusal(tick) {
             return Answer::Refused(refusal);
         }
-        Answer::Log(self.parts.cover(tick))
+        let given = self.engine.cover(tick);
+        self.engine.in_order();
+        Answer::Log(given)
     }
 
     // The next start begins from what recovery finds in the bytes that the crash left.
@@ -223,18 +252,20 @@ impl<C: Capture> Core<C> {
         ensures exact { (past : Past) → IsCoreAt past self.old
             → IsExact past self.old (Move.Crash left) result }
         ensures does { Does (Move.Crash left) self.old result self.new }
-        ensures cells { self.new.cells ≡ self.old.cells }
+        ensures cells { self.new.images.cells ≡ self.old.images.cells }
         ensures refused { (refusal : _) → result ≡ Answer.Refused refusal → self.new ≡ self.old }
     {
         event_laws();
-        queue_laws();
-        keeper_laws();
         safety_laws();
-        if !self.parts.allows(&left) {
+        if !self.allows(&left) {
             return Answer::Refused(Refusal::Impossible);
         }
-        match self.parts.restart(left) {
-            Ok(answer) => answer,
+        match Core::stand_on(self.alloc, self.cells(), left) {
+            Ok((engine, answer)) => {
+                self.engine = engine;
+                self.engine.in_order();
+                answer
+            }
             Err(refusal) => Answer::Refused(refusal),
         }
     }

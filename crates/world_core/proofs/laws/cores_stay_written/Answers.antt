@@ -2,4 +2,4 @@ use Rattle.world_core.proofs.Written.{stay_written}
 use Rattle.world_core.proofs.laws.cores_stay_written.Goals as goal
 
 pub returns : goal.returns
-returns c = stay_written c.keeper_laws.ensures c.outcome_laws.ensures c.safety_laws.ensures
+returns c = stay_written c.safety_laws.ensures

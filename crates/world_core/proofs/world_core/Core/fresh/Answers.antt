@@ -5,18 +5,16 @@ use Rattle.world_core.proofs.world_core.Core.fresh.Goals as goal
 
 pub invariant_of-result : goal.invariant_of-result
 invariant_of-result g c = (
-  fresh_past,
-  fresh_core c.event_laws.ensures c.queue_laws.ensures c.keeper_laws.ensures c.args.cells c.in_ok-parts.parts c.requires.0 c.requires.1
-      (begins_empty _ _ _ _ _ _ _ c.in_ok-parts.ensures.begins (c.deref.ensures.value ∙ c.in_ok-words.ensures.zeros)
-      c.none.ensures.image_a c.none.ensures.image_b c.none.ensures.log_a c.none.ensures.log_b),
+  c.in_ok-engine.ensures.unarmed,
+  (
+    fresh_past,
+    fresh_core c.event_laws.ensures c.safety_laws.ensures c.args.cells c.in_ok-engine.engine c.requires.0 c.requires.1
+        (begins_empty _ _ _ _ _ _ _ c.in_ok-engine.ensures.begins (c.deref.ensures.value ∙ c.in_ok-words.ensures.zeros)
+        c.none.ensures.image_a c.none.ensures.image_b c.none.ensures.log_a c.none.ensures.log_b) c.in_order.ensures,
+  ),
 )
 
 pub returns-clause-fresh : goal.returns-clause-fresh
-returns-clause-fresh g c = fresh_core c.event_laws.ensures c.queue_laws.ensures c.keeper_laws.ensures c.args.cells c.in_ok-parts.parts c.requires.0 c.requires.1
-    (begins_empty _ _ _ _ _ _ _ c.in_ok-parts.ensures.begins (c.deref.ensures.value ∙ c.in_ok-words.ensures.zeros)
-    c.none.ensures.image_a c.none.ensures.image_b c.none.ensures.log_a c.none.ensures.log_b)
-
-pub returns-clause-begins : goal.returns-clause-begins
-returns-clause-begins g c =
-    begins_empty _ _ _ _ _ _ _ c.in_ok-parts.ensures.begins (c.deref.ensures.value ∙ c.in_ok-words.ensures.zeros)
-    c.none.ensures.image_a c.none.ensures.image_b c.none.ensures.log_a c.none.ensures.log_b
+returns-clause-fresh g c = fresh_core c.event_laws.ensures c.safety_laws.ensures c.args.cells c.in_ok-engine.engine c.requires.0 c.requires.1
+    (begins_empty _ _ _ _ _ _ _ c.in_ok-engine.ensures.begins (c.deref.ensures.value ∙ c.in_ok-words.ensures.zeros)
+    c.none.ensures.image_a c.none.ensures.image_b c.none.ensures.log_a c.none.ensures.log_b) c.in_order.ensures
