@@ -150,15 +150,10 @@ pub fn open_world<M: Seats, D: Disk + Drop>(
     ensures { IfOk result (λ made.
         IsWhole D.honest D.content made.0.front made.0.back made.0.images made.0.log made.0.ended) }
 {
-    let mut files = files;
-    match recover_world::<PlainCopy, D>(alloc, &mut files) {
-        Ok(begun) => {
-            let from = begun.from;
-            let opened = start_world(alloc, begun, files)?;
-            Ok((opened, from))
-        }
-        Err(refusal) => Err((files, refusal)),
-    }
+    let begun = recover_world::<PlainCopy, D>(alloc, files)?;
+    let from = begun.from;
+    let opened = start_world(alloc, begun)?;
+    Ok((opened, from))
 }
 
 /// The world in these files, for its workers.

@@ -18,9 +18,6 @@ pub fn open_world<M: Seats, D: Disk + Drop>(
     ensures { IfOk result (λ opened.
         IsWhole D.honest D.content opened.front opened.back opened.images opened.log opened.ended) }
 {
-    let mut files = files;
-    match recover_world::<PlainCopy, D>(alloc, &mut files) {
-        Ok(begun) => start_world(alloc, begun, files),
-        Err(refusal) => Err((files, refusal)),
-    }
+    let begun = recover_world::<PlainCopy, D>(alloc, files)?;
+    start_world(alloc, begun)
 }

@@ -4,7 +4,7 @@ use Rattle.std.specs.Prelude.{IfOk, IfErr, MatchResult}
 use Rattle.world_actions.specs.declared.action.Action.{Action}
 use Rattle.world_actions.specs.declared.refusal.Refusal.{Refusal}
 use Rattle.disk_model.specs.declared.four_files.FourFiles.{FourFiles}
-use Rattle.world_start.specs.Opening.{AreSound}
+use Rattle.engine.specs.Follows.{AreSound}
 use Rattle.workers.specs.declared.checkpointer.round.ImageWriter.{ImageWriter}
 use Rattle.workers.specs.declared.log_writer.Log.{Log}
 use Rattle.worker_threads.specs.Opening.{files_of}

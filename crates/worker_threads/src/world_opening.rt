@@ -4,11 +4,10 @@ ghost use Rattle.world_actions.specs.World.{IsWord};
 ghost use Rattle.world_actions.specs.declared.action.Action.{Action};
 ghost use Rattle.disk_model.specs.FourFiles.{fault_counts};
 ghost use Rattle.image_files.specs.declared.phase.Phase.TheVariants.{Idle};
-ghost use Rattle.world_start.specs.Engine.{Follows};
+ghost use Rattle.engine.specs.Follows.{AreSound, Follows};
+ghost use Rattle.engine.specs.Parts.{AreAtRest, AreSettled};
+ghost use Rattle.engine.specs.Runs.{HasNewest, SomeGrew};
 ghost use Rattle.world_start.specs.Steps.{IsAhead};
-ghost use Rattle.world_start.specs.Parts.{AreAtRest, AreSettled};
-ghost use Rattle.world_start.specs.Opening.{AreSound, SomeGrew};
-ghost use Rattle.world_start.specs.Running.{HasNewest};
 ghost use Rattle.shared_capture.specs.States.{IsStart};
 ghost use Rattle.worker_steps.specs.Begun.{IsWhole};
 ghost use Rattle.worker_steps.specs.Stopped.{WorldStands};
@@ -16,12 +15,13 @@ ghost use Rattle.worker_threads.specs.Opening.{files_of};
 
 use capture_core::Capture;
 use disk_model::{Disk, FourFiles};
+use engine::{Parts, followed_files_are_sound};
 use shared_capture::{Back, Front, Method, Pong, Zig, ping_pong_pair, zigzag_pair};
 use std::alloc::Global;
 use worker_steps::Opened;
 use workers::{ImageWriter, Log};
 use world_actions::Refusal;
-use world_start::{Parts, Start, followed_files_are_sound};
+use world_start::Start;
 
 /// A method whose two seats can be made.
 pub trait Seats: Method {
@@ -44,27 +44,26 @@ impl Seats for Pong {
     }
 }
 
-/// Opens a world for its workers that was recovered from these files, and runs its start to the
-/// end. The front keeps the list of the recovered words. If it is refused, it gives the files back:
-/// they still recover to that world.
+/// Opens a world for its workers that was recovered from its files, and runs its start to the end.
+/// The front keeps the list of the recovered words. If it is refused, it gives the files back: they
+/// still recover to that world.
 pub fn start_world<M: Seats, C: Capture, D: Disk + Drop>(
     alloc: Global,
-    begun: Start<C>,
-    files: FourFiles<D>,
+    begun: Start<C, D>,
 ) -> Result<Opened<M, D>, (FourFiles<D>, Refusal)>
-    requires { IsAhead C.content D.content D.honest begun files }
+    requires { IsAhead begun.engine begun.words.items }
     ensures whole { IfOk result (λ opened.
         IsWhole D.honest D.content opened.front opened.back opened.images opened.log opened.ended) }
     ensures words { IfOk result (λ opened. opened.front.live ≡ begun.words.items) }
     ensures ended { IfOk result (λ opened. opened.ended ≡ begun.engine.ended) }
     ensures stands { IsTrue D.honest
         → IfOk result (λ opened. (first : List ℕ) (ticks : List (List Action)) (acknowledged : ℕ)
-        → Follows C.content D.content D.may_leave begun.engine files first ticks acknowledged
+        → Follows D.content D.may_leave begun.engine first ticks acknowledged
         → WorldStands D.content D.may_leave first ticks opened.front.live opened.images opened.log
         × (opened.ended ≡ length ticks)) }
     ensures sound { IsTrue D.honest → HasNewest begun.engine.images
         → (first : List ℕ) (ticks : List (List Action)) (acknowledged : ℕ)
-        → Follows C.content D.content D.may_leave begun.engine files first ticks acknowledged
+        → Follows D.content D.may_leave begun.engine first ticks acknowledged
         → MatchResult result
         (λ opened. AreSound D.content D.may_leave (files_of opened.images opened.log)
         first ticks acknowledged)
@@ -72,18 +71,17 @@ pub fn start_world<M: Seats, C: Capture, D: Disk + Drop>(
     ensures refused { IfErr result (λ refused. (refused.1 ≡ Refusal.NoMemory)
         ⊎ (refused.1 ≡ Refusal.Device)) }
     ensures device { IfErr result (λ refused. refused.1 ≡ Refusal.Device
-        → SomeGrew (fault_counts D.faults files) (fault_counts D.faults refused.0)) }
+        → SomeGrew (fault_counts D.faults begun.engine.files) (fault_counts D.faults refused.0)) }
 {
-    followed_files_are_sound::<C, D>();
-    let mut files = files;
+    followed_files_are_sound::<D>();
     let Start {
         mut engine,
         words,
         from: _,
     } = begun;
-    match engine.start(&mut files) {
-        Ok(()) => seated(alloc, engine.into_parts(words, files)),
-        Err(refusal) => Err((files, refusal)),
+    match engine.start() {
+        Ok(()) => seated(alloc, engine.into_parts(words)),
+        Err(refusal) => Err((engine.into_files(), refusal)),
     }
 }
 

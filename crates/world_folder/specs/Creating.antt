@@ -3,8 +3,9 @@ use Rattle.std.specs.Prelude.{◌≡◌, ℕ, List, [], ◌∷◌, length, repli
 use Rattle.disk_model.specs.FourFiles.{EachFile}
 use Rattle.disk_model.specs.declared.four_files.FourFiles.{FourFiles}
 use Rattle.world_actions.specs.declared.refusal.Refusal.TheVariants.{NoMemory}
+use Rattle.engine.specs.Follows.{AreSound}
 use Rattle.world_start.specs.Fresh.{AreMade}
-use Rattle.world_start.specs.Opening.{AreSound, AreSynced}
+use Rattle.world_start.specs.Opening.{AreSynced}
 use Rattle.world_folder.specs.Completing.{AreFound, AreTaken, KeepsThere, ReportsOpen}
 use Rattle.world_folder.specs.Making.{HoldsWords}
 use Rattle.world_folder.specs.History.{Act, Printed}

@@ -14,7 +14,8 @@ use Rattle.file_readers.specs.declared.image.TheConstants.{IMAGE_BYTES_MAX}
 use Rattle.file_readers.specs.Asking.{OnlyAsked}
 use Rattle.recovery.specs.Recovery.{Recovery, Recovers}
 use Rattle.recovery.specs.Sound.{IsFresh}
-use Rattle.world_start.specs.Opening.{AreSynced, AreSound, RecoversFiles}
+use Rattle.engine.specs.Follows.{AreSound}
+use Rattle.world_start.specs.Opening.{AreSynced, RecoversFiles}
 use Rattle.world_start.specs.Fresh.{FilesAreClosed, AreFreshOrSound}
 use Rattle.world_folder.specs.declared.ending.Ending.{Ending}
 use Rattle.world_folder.specs.declared.ending.Ending.TheVariants.{Fault, Occupied}

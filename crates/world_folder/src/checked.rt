@@ -1,5 +1,6 @@
 //! Recovery of a world, whose files are checked for a loss.
 ghost use Rattle.std.specs.Prelude.{◌≡◌, ◌≤◌, None, take, IsTrue, IfOk, IfErr, IfSome};
+ghost use Rattle.std.specs.Prelude.{MatchResult};
 ghost use Rattle.disk_model.specs.FourFiles.{EachFile, KeepsFile};
 ghost use Rattle.world_start.specs.Opening.{IsRead};
 ghost use Rattle.world_start.specs.Steps.{IsAhead};
@@ -25,45 +26,47 @@ pub enum NotRecovered {
 
 /// A world that was recovered.
 #[derive(Drop)]
-pub struct Checked<C: Capture> {
-    pub begun: Start<C>,
+pub struct Checked<C: Capture, D: Disk> {
+    pub begun: Start<C, D>,
     /// The finding to be named.
     pub finding: Option<Finding>,
 }
 
 /// Recovers the world in the files, as `recover_world` does, and judges by their heads and the
-/// world's guard if ticks that were answered are in none of them. The files are only read.
+/// world's guard if ticks that were answered are in none of them. The files are only read. If no
+/// world is served, it gives them back.
 pub fn recover_checked<C: Capture + Drop, D: Disk>(
     alloc: Global,
-    files: &mut FourFiles<D>,
+    files: FourFiles<D>,
     checks: Checks,
-) -> Result<Checked<C>, NotRecovered>
-    ensures kept { IsTrue D.honest
-        → EachFile files.old files.new (KeepsFile D.content D.may_leave) }
-    ensures ahead { IfOk result (λ found.
-        IsAhead C.content D.content D.honest found.begun files.new) }
+) -> Result<Checked<C, D>, (FourFiles<D>, NotRecovered)>
+    ensures kept { IsTrue D.honest → MatchResult result
+        (λ found. EachFile files found.begun.engine.files (KeepsFile D.content D.may_leave))
+        (λ refused. EachFile files refused.0 (KeepsFile D.content D.may_leave)) }
+    ensures ahead { IfOk result (λ found. IsAhead found.begun.engine found.begun.words.items) }
     ensures read { IsTrue D.honest → IfOk result (λ found.
-        IsRead C.content D.content D.may_leave files.old found.begun.engine
-        found.begun.from files.new) }
+        IsRead D.content D.may_leave files found.begun.engine found.begun.from) }
     ensures judged { IsTrue D.honest → IfOk result (λ found.
         JudgedIn D.content checks found.begun.engine.ended found.begun.from
-        files.old found.finding) }
+        files found.finding) }
     ensures whole { IsTrue D.honest → checks.lost ≡ OnLoss.Refuse → IfOk result (λ found.
-        lost_in D.content checks.lost found.begun.engine.ended found.begun.from files.old
+        lost_in D.content checks.lost found.begun.engine.ended found.begun.from files
         ≡ None) }
     ensures newest { checks.older ≡ OnLoss.Refuse → IfOk result (λ found.
         IfSome checks.guard (λ guard. guard.acked ≤ found.begun.engine.ended)) }
-    ensures refused { IfErr result (IsUnrecovered D.content D.honest checks files.old) }
+    ensures refused { IfErr result (λ refused.
+        IsUnrecovered D.content D.honest checks files refused.1) }
 {
-    let heads = match read_heads(alloc, files) {
+    let mut files = files;
+    let heads = match read_heads(alloc, &mut files) {
         Ok(heads) => heads,
-        Err(refusal) => return Err(NotRecovered::Refused(refusal)),
+        Err(refusal) => return Err((files, NotRecovered::Refused(refusal))),
     };
     match recover_world(alloc, files) {
-        Ok(begun) => match judge(checks, begun.engine.ended, begun.from, &heads) {
+        Ok(begun) => match judge(checks, begun.engine.ended(), begun.from, &heads) {
             Ok(finding) => Ok(Checked { begun, finding }),
-            Err(lost) => Err(NotRecovered::Lost(lost)),
+            Err(lost) => Err((begun.engine.into_files(), NotRecovered::Lost(lost))),
         },
-        Err(refusal) => Err(NotRecovered::Refused(refusal)),
+        Err((files, refusal)) => Err((files, NotRecovered::Refused(refusal))),
     }
 }

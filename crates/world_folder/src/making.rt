@@ -6,7 +6,7 @@ ghost use Rattle.action_log.specs.declared.format.TheConstants.{SEGMENT_BYTES_MA
 ghost use Rattle.file_readers.specs.declared.image.TheConstants.{IMAGE_BYTES_MAX};
 ghost use Rattle.file_readers.specs.Asking.{FilesOnlyAsked};
 ghost use Rattle.file_readers.specs.Reading.{AreFilesRead};
-ghost use Rattle.world_start.specs.Opening.{SomeGrew};
+ghost use Rattle.engine.specs.Runs.{SomeGrew};
 ghost use Rattle.world_start.specs.Fresh.{AreClosed, AreMade};
 ghost use Rattle.world_folder.specs.declared.ending.Occupied.{Occupied as Open};
 ghost use Rattle.world_folder.specs.Ending.{IsFault};

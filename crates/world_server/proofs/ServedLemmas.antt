@@ -3,12 +3,11 @@ use Rattle.std.proofs.Common.{◌≡◌, ◌≤◌, ℕ, Bool, List, [], ◌∷�
 use Rattle.std.proofs.lemmas.List.{append_assoc}
 use Rattle.std.specs.Prelude.{IfOk, IfErr, MatchResult}
 use Rattle.world_actions.specs.declared.action.Action.{Action}
-use Rattle.capture_core.specs.Content.{Content}
 use Rattle.disk_model.specs.declared.four_files.FourFiles.{FourFiles}
 use Rattle.recovery.specs.Events.{ticks_in}
-use Rattle.world_start.specs.declared.engine.Engine.{Engine}
-use Rattle.world_start.specs.Engine.{Follows}
-use Rattle.world_start.specs.Opening.{AreSound, IsRead}
+use Rattle.engine.specs.World.{World}
+use Rattle.engine.specs.Follows.{AreSound, Follows}
+use Rattle.world_start.specs.Opening.{IsRead}
 use Rattle.workers.specs.declared.checkpointer.round.ImageWriter.{ImageWriter}
 use Rattle.workers.specs.declared.log_writer.Log.{Log}
 use Rattle.workers.specs.Items.{records_of}
@@ -26,24 +25,24 @@ use Rattle.world_server.specs.Served.{recovered_line, stopped_line, failure_line
 
 -- ---- the opening
 
-module _ {C D : Type 0} (content : C → Content) (file : D → List ℕ) (leaves : D → List ℕ → Type 0) where
+module _ {D : Type 0} (file : D → List ℕ) (leaves : D → List ℕ → Type 0) where
   -- a start that was run to its end holds the recovered world at rest
-  pub stands_opened : (files left : FourFiles D) (engine : Engine C) (from : ℕ) (words : List ℕ) (writer : ImageWriter D) (log : Log D) (ended : ℕ)
-      → IsRead content file leaves files engine from left
+  pub stands_opened : (files : FourFiles D) (begun : World D) (from : ℕ) (words : List ℕ) (writer : ImageWriter D) (log : Log D) (ended : ℕ)
+      → IsRead file leaves files begun from
       → ((first : List ℕ) (ticks : List (List Action)) (acknowledged : ℕ)
-      → Follows content file leaves engine left first ticks acknowledged → WorldStands file leaves first ticks words writer log × (ended ≡ length ticks))
-      → ended ≡ engine.ended → StandsOpened file leaves files engine.ended words writer log
-  stands_opened files left engine from words writer log ended read opens is = λ first ticks acknowledged w.
+      → Follows file leaves begun first ticks acknowledged → WorldStands file leaves first ticks words writer log × (ended ≡ length ticks))
+      → ended ≡ begun.ended → StandsOpened file leaves files begun.ended words writer log
+  stands_opened files begun from words writer log ended read opens is = λ first ticks acknowledged w.
       let f = read.follows first ticks acknowledged w in
-      let same : read.recovery.tick ≡ engine.ended = sym read.ended in
+      let same : read.recovery.tick ≡ begun.ended = sym read.ended in
       let s = opens first (take read.recovery.tick ticks) read.recovery.tick f.1 in
       subst (λ n. WorldStands file leaves first (take n ticks) words writer log × (n ≡ length (take n ticks))) same (s.0, same ∙ sym is ∙ s.1)
 
   -- files that are sound for the ticks that the start followed keep the recovered world
-  pub keeps_world : (files left : FourFiles D) (engine : Engine C) (from : ℕ) (after : FourFiles D) → IsRead content file leaves files engine from left
-      → ((first : List ℕ) (ticks : List (List Action)) (acknowledged : ℕ) → Follows content file leaves engine left first ticks acknowledged → AreSound file leaves after first ticks acknowledged)
-      → KeepsWorld file leaves files engine.ended after
-  keeps_world files left engine from after read sound = λ first ticks acknowledged w.
+  pub keeps_world : (files : FourFiles D) (begun : World D) (from : ℕ) (after : FourFiles D) → IsRead file leaves files begun from
+      → ((first : List ℕ) (ticks : List (List Action)) (acknowledged : ℕ) → Follows file leaves begun first ticks acknowledged → AreSound file leaves after first ticks acknowledged)
+      → KeepsWorld file leaves files begun.ended after
+  keeps_world files begun from after read sound = λ first ticks acknowledged w.
       let f = read.follows first ticks acknowledged w in
       subst (λ n. (acknowledged ≤ n) × AreSound file leaves after first (take n ticks) n) (sym read.ended) (f.0, sound first (take read.recovery.tick ticks) read.recovery.tick f.1)
 

@@ -7,7 +7,8 @@ use Rattle.disk_model.specs.FourFiles.{EachFile, KeepsFile}
 use Rattle.disk_model.specs.declared.four_files.FourFiles.{FourFiles}
 use Rattle.recovery.specs.Events.{ticks_in}
 use Rattle.recovery.specs.Recovery.{Recovery}
-use Rattle.world_start.specs.Opening.{AreOfWorld, AreSound, RecoversFiles}
+use Rattle.engine.specs.Follows.{AreSound}
+use Rattle.world_start.specs.Opening.{AreOfWorld, RecoversFiles}
 use Rattle.workers.specs.Items.{records_of}
 use Rattle.workers.specs.Mutating.{Playing}
 use Rattle.workers.specs.Imaging.{Imaging}

@@ -140,21 +140,20 @@ fn open_files<M: Seats, D: Disk + Drop, W, F: Front<M, D, W>>(
         × (F.noted front.new ≡ F.noted front.old ++ finding_lines finding)) }
     ensures ends { IfErr result EndsAsFailed }
 {
-    let mut files = files;
-    match recover_checked::<PlainCopy, D>(alloc, &mut files, checks) {
+    match recover_checked::<PlainCopy, D>(alloc, files, checks) {
         Ok(found) => {
             let Checked { begun, finding } = found;
             let recovered = WorldReport {
-                tick: begun.engine.ended,
+                tick: begun.engine.ended(),
                 from: begun.from,
             };
             announce::<M, D, W, F>(front, recovered, finding);
-            match start_world::<M, PlainCopy, D>(alloc, begun, files) {
+            match start_world::<M, PlainCopy, D>(alloc, begun) {
                 Ok(opened) => Ok((recovered, opened)),
                 Err((files, refusal)) => Err(WorldFailure::NotStarted(recovered, files, refusal)),
             }
         }
-        Err(why) => Err(WorldFailure::NotRecovered(files, why)),
+        Err((files, why)) => Err(WorldFailure::NotRecovered(files, why)),
     }
 }
 

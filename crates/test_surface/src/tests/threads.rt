@@ -58,11 +58,9 @@ fn make_world<M: Seats, D: Disk + Drop>(
     ensures { IfOk result (λ opened. IsWhole D.honest D.content opened.front opened.back
         opened.images opened.log opened.ended) }
 {
-    let mut files = fresh_files(alloc, 2, files)?;
-    match recover_world::<PlainCopy, D>(alloc, &mut files) {
-        Ok(begun) => start_world(alloc, begun, files),
-        Err(refusal) => Err((files, refusal)),
-    }
+    let files = fresh_files(alloc, 2, files)?;
+    let begun = recover_world::<PlainCopy, D>(alloc, files)?;
+    start_world(alloc, begun)
 }
 
 fn open_world<M: Seats, D: Disk + Drop>(

@@ -1,12 +1,16 @@
-use Rattle.std.proofs.Common.{sym, ap, ◌∙◌}
+use Rattle.std.proofs.Common.{sym, ap, subst, ◌∙◌}
 use Rattle.std.proofs.lemmas.Result.{IfOk-weaker}
+use Rattle.disk_model.specs.FourFiles.{fault_counts}
+use Rattle.disk_model.specs.declared.four_files.FourFiles.{FourFiles}
 use Rattle.image_files.specs.Progress.{Progress as ImageProgress}
 use Rattle.action_log.specs.declared.progress.Progress.{Progress as LogProgress}
+use Rattle.engine.specs.Follows.{AreSound}
+use Rattle.engine.specs.Runs.{SomeGrew}
 use Rattle.worker_threads.proofs.Opening.{both_sound}
 use Rattle.worker_threads.proofs.world_opening.start_world.Goals as goal
 
 pub into_parts-requires-clause-words : goal.into_parts-requires-clause-words
-into_parts-requires-clause-words g c = c.requires.words ∙ sym c.start.ensures.live
+into_parts-requires-clause-words g c = c.requires.words_are ∙ sym c.start.ensures.live
 
 pub returns-in-Ok-clause-stands : goal.returns-in-Ok-clause-stands
 returns-in-Ok-clause-stands g c = λ honest.
@@ -23,13 +27,20 @@ returns-in-Ok-clause-stands g c = λ honest.
 pub returns-in-Ok-clause-sound : goal.returns-in-Ok-clause-sound
 returns-in-Ok-clause-sound g c = λ honest newest first ticks acknowledged follows.
     let D = g.D.Disk in
-    let left = c.start.new.files in
+    let left = c.start.new.self.files in
     let on = c.start.ensures.follows honest first ticks acknowledged follows in
-    let sound = c.followed_files_are_sound.ensures.begun c.start.new.self left first ticks acknowledged (c.start.ensures.newest newest) on in
+    let sound = c.followed_files_are_sound.ensures.begun c.start.new.self first ticks acknowledged (c.start.ensures.newest newest) on in
     both_sound D.content D.may_leave first ticks acknowledged c.into_parts.result.files left c.seated.result (λ opened. opened.images) (λ opened. opened.log)
     (c.into_parts.ensures.files) c.seated.ensures.files c.seated.ensures.refused sound
 
 pub returns-in-Err-clause-sound : goal.returns-in-Err-clause-sound
 returns-in-Err-clause-sound g c = λ honest newest first ticks acknowledged follows.
-    c.followed_files_are_sound.ensures.begun c.start.new.self c.start.new.files first ticks acknowledged (c.start.ensures.newest newest)
-    (c.start.ensures.follows honest first ticks acknowledged follows)
+    subst (λ (left : FourFiles g.row.D.Denot). AreSound g.D.Disk.content g.D.Disk.may_leave left first ticks acknowledged) (sym c.into_files.ensures)
+    (c.followed_files_are_sound.ensures.begun c.start.new.self first ticks acknowledged (c.start.ensures.newest newest)
+    (c.start.ensures.follows honest first ticks acknowledged follows))
+
+pub returns-in-Err-clause-device : goal.returns-in-Err-clause-device
+returns-in-Err-clause-device g c = λ _.
+    let faults = g.D.Disk.faults in
+    subst (λ (left : FourFiles g.row.D.Denot). SomeGrew (fault_counts faults c.args.begun.engine.files) (fault_counts faults left)) (sym c.into_files.ensures)
+    (c.in-Err.ensures.device c.requires.up.0 c.requires.up.1)

@@ -1,6 +1,6 @@
 use Rattle.std.proofs.Common.{subst, ℕ, List}
 use Rattle.disk_model.specs.FourFiles.{fault_counts}
-use Rattle.world_start.specs.Opening.{SomeGrew}
+use Rattle.engine.specs.Runs.{SomeGrew}
 use Rattle.world_start.proofs.Carried.{read_closed}
 use Rattle.world_folder.proofs.MakingLemmas.{device_named, zeros_made, zeros_unmade}
 use Rattle.world_folder.proofs.making.make_in.Goals as goal
