@@ -5,6 +5,32 @@ use Rattle.world_actions.specs.declared.refusal.Refusal.{Refusal}
 use Rattle.world_actions.specs.declared.refusal.Refusal.TheVariants.{Device}
 use Rattle.disk_model.specs.Disk.{last_count, Within}
 use Rattle.disk_model.specs.declared.four_files.FourFiles.{FourFiles}
+use Rattle.disk_model.specs.declared.world_file.WorldFile.{WorldFile}
+use Rattle.disk_model.specs.declared.world_file.WorldFile.TheVariants.{ImageA, ImageB, LogA, LogB}
+use Rattle.disk_model.specs.declared.world_file.TheConstants.{IMAGE_A, IMAGE_B, LOG_A, LOG_B}
+
+abbrev pub name_of : WorldFile → List ℕ
+name_of ImageA = IMAGE_A.now
+name_of ImageB = IMAGE_B.now
+name_of LogA = LOG_A.now
+name_of LogB = LOG_B.now
+
+abbrev pub value_of : {T : Type 0} → WorldFile → FourFiles T → T
+value_of ImageA files = files.image_a
+value_of ImageB files = files.image_b
+value_of LogA files = files.log_a
+value_of LogB files = files.log_b
+
+-- the values, with this one for one of the files
+abbrev pub with_value : {T : Type 0} → WorldFile → T → FourFiles T → FourFiles T
+with_value ImageA value files = record files { image_a = value }
+with_value ImageB value files = record files { image_b = value }
+with_value LogA value files = record files { log_a = value }
+with_value LogB value files = record files { log_b = value }
+
+-- the same value for each file
+abbrev pub each_of : {T : Type 0} → T → FourFiles T
+each_of value = record { image_a = value; image_b = value; log_a = value; log_b = value }
 
 -- the relation R holds between the two values of each file
 pub record EachFile {A B : Type 0} (firsts : FourFiles A) (seconds : FourFiles B)

@@ -15,6 +15,7 @@ mod leaving;
 mod model_file;
 mod places;
 mod whole_file;
+mod world_file;
 
 pub use disk::Disk;
 pub use four_files::FourFiles;
@@ -22,3 +23,4 @@ pub use fused::Fused;
 pub use leaving::Leaving;
 pub use model_file::ModelFile;
 pub use whole_file::read_all;
+pub use world_file::{IMAGE_A, IMAGE_B, LOG_A, LOG_B, WorldFile};

@@ -1,6 +1,5 @@
 pub mod Beginning
 pub mod Begun
-pub mod Fitting
 pub mod Gates
 pub mod Marked
 pub mod Played

@@ -15,4 +15,4 @@ mod in_step;
 mod start;
 
 pub use in_step::{worlds_are_safe, worlds_go_on};
-pub use start::{QUEUE_RECORDS, gates_are_reported, has_round, images_of, log_of, store_of, zeros};
+pub use start::{QUEUE_RECORDS, gates_are_reported, has_round, store_of, zeros};
