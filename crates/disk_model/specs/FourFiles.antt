@@ -32,6 +32,15 @@ with_value LogB value files = record files { log_b = value }
 abbrev pub each_of : {T : Type 0} → T → FourFiles T
 each_of value = record { image_a = value; image_b = value; log_a = value; log_b = value }
 
+-- the results of a function on each value
+abbrev pub mapped : {A B : Type 0} → (A → B) → FourFiles A → FourFiles B
+mapped f files = record {
+  image_a = f files.image_a;
+  image_b = f files.image_b;
+  log_a = f files.log_a;
+  log_b = f files.log_b;
+}
+
 -- the relation R holds between the two values of each file
 pub record EachFile {A B : Type 0} (firsts : FourFiles A) (seconds : FourFiles B)
     (R : A → B → Type 0) : Type 0 where
