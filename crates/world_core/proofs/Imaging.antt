@@ -22,7 +22,7 @@ use Rattle.recovery.specs.Events.{acknowledged_opened}
 use Rattle.world_core.specs.State.{State, content_of, leaves_of}
 use Rattle.world_core.specs.Exact.{Progresses, IsImageAnswer}
 use Rattle.image_files.specs.Progress.{Progress, moves_left, left_of, opened_keeper, newest_tick}
-use Rattle.world_core.specs.Moving.{StepsImageKeeper}
+use Rattle.world_core.specs.Moving.{StepsImagesBy}
 use Rattle.world_core.specs.Facts.{IsCoreAt, is_known}
 use Rattle.world_core.proofs.Exact.{still_reported}
 
@@ -99,15 +99,6 @@ seen_after cells old new standing running fate known images given_.Down next s e
 
 -- ---- the step
 
-step_live : (cells : ℕ) (old new : Content) (images : ImageFiles) (given : ImageAnswer) (next : ImageFiles) → StepsImages Takes cells images given next old new → new.live ≡ old.live
-step_live cells old new images given_.Idle next s = ap (λ (c : Content). c.live) s.2
-step_live cells old new images given_.Working next s = elim s.2 [
-  | inl same ↦ ap (λ (c : Content). c.live) same.1
-  | inr cell ↦ ap (λ (c : Content). c.live) cell.1.rest
-]
-step_live cells old new images (given_.Opened tick) next s = ap (λ (c : Content). c.live) s.5
-step_live cells old new images given_.Down next s = ap (λ (c : Content). c.live) s.3
-
 -- both count the same opened images
 counts : (acknowledged : ℕ) (given : ImageAnswer) → acknowledged_after acknowledged (answer.Image given) ≡ acknowledged_opened acknowledged given
 counts acknowledged given_.Idle = refl
@@ -116,14 +107,13 @@ counts acknowledged (given_.Opened tick) = refl
 counts acknowledged given_.Down = refl
 
 pub image_keeps : EventLaws → (past : Past) (old new : State) (fate : Fate) (given : ImageAnswer) → IsCoreAt past old → IsInOrder content_of true new
-    → StepsImageKeeper fate old given new → IsCoreAt (past_after past (move.Image fate) (answer.Image given)) new
+    → StepsImagesBy fate old given new → IsCoreAt (past_after past (move.Image fate) (answer.Image given)) new
 image_keeps laws past old new fate given c order d =
     let after = past_after past (move.Image fate) (answer.Image given) in
     let first : List ℕ = replicate c.size 0 in
     let ticks = past.history.ticks in
     let moved : State = record old { content = new.content; images = new.images; files = record old.files { image_a = new.files.image_a; image_b = new.files.image_b } } in
-    let live : new.content.live ≡ old.content.live = (let s = d.stands c.images c.has_images in step_live old.images.cells old.content new.content c.images given s.0 s.2) in
-    let a = image_follows content_of leaves_of laws old new given first ticks past.acknowledged d.rest d.stands d.cells live c.follows in
+    let a = image_follows content_of leaves_of laws old new given first ticks past.acknowledged d.rest (d.stands refl) d.cells d.live c.follows in
     let next = a.follows.images in
     let whole : Keeps content_of leaves_of new first ticks (acknowledged_opened past.acknowledged given) next c.place = record { follows = a.follows; images_are = refl; place_is = a.place } in
     let k : Keeps content_of leaves_of moved first ticks after.acknowledged next c.place = subst (λ w. Keeps content_of leaves_of w first ticks after.acknowledged next c.place) d.rest
@@ -157,7 +147,7 @@ image_keeps laws past old new fate given c order d =
 -- ---- the answer
 
 -- a keeper in a round that isn't down has moves left
-pub some_left : (p : Phase) (keeper : Progress) → (p ≡ Idle → ⊥) → (p ≡ Down → ⊥) → 0 < moves_left p keeper
+some_left : (p : Phase) (keeper : Progress) → (p ≡ Idle → ⊥) → (p ≡ Down → ⊥) → 0 < moves_left p keeper
 some_left Idle k idle down = absurd (idle refl)
 some_left Down k idle down = absurd (down refl)
 some_left p k idle down = omega arith
@@ -165,13 +155,14 @@ some_left p k idle down = omega arith
 none_left : (keeper old : Progress) → keeper ≡ opened_keeper old → left_of keeper ≡ 0
 none_left keeper old e = ap left_of e
 
-pub image_progress : (old new : State) (fate : Fate) (given : ImageAnswer) → StepsImageKeeper fate old given new → Progresses (move.Image fate) (answer.Image given) old new
+left_before : (old new : State) (fate : Fate) (given : ImageAnswer) → StepsImagesBy fate old given new → (given ≡ given_.Idle → ⊥) → (given ≡ given_.Down → ⊥) → 0 < left_of old.images
+left_before old new fate given d busy up = some_left old.images.phase old.images (λ e. busy (d.idle.1 e)) (λ e. up (d.stays_down e))
+
+pub image_progress : (old new : State) (fate : Fate) (given : ImageAnswer) → StepsImagesBy fate old given new → Progresses (move.Image fate) (answer.Image given) old new
 image_progress old new fate given_.Idle d = tt
-image_progress old new fate given_.Working d = d.working
-image_progress old new fate (given_.Opened tick) d = (
-  none_left new.images old.images d.opened,
-  some_left old.images.phase old.images (λ e. (let g = d.idle.1 e in absurd (let h = g in cc))) (λ e. (let g = d.stays_down e in absurd (let h = g in cc))),
-)
+image_progress old new fate given_.Working d = d.lowers (left_before old new fate given_.Working d (λ e. let g = e in cc) (λ e. let g = e in cc))
+image_progress old new fate (given_.Opened tick) d =
+    (none_left new.images old.images d.ended, left_before old new fate (given_.Opened tick) d (λ e. let g = e in cc) (λ e. let g = e in cc))
 image_progress old new fate given_.Down d = tt
 
 some_round : (standing : Option ℕ) (round : Option Round) (r : Round) → standing ≡ round_tick round → round ≡ Some r → standing ≡ Some r.tick
@@ -180,17 +171,17 @@ some_round standing round r e is = e ∙ ap round_tick is
 is_open : (standing : Option ℕ) (tick : ℕ) → standing ≡ Some tick → is_some standing ≡ true
 is_open standing tick e = ap is_some e
 
-pub image_exact : (past : Past) (old new : State) (fate : Fate) (given : ImageAnswer) → IsCoreAt past old → StepsImageKeeper fate old given new → IsImageAnswer past.standing given
-image_exact past old new fate given_.Idle c d = c.reported.round ∙ ap round_tick (d.stands c.images c.has_images).2.0
+pub image_exact : (past : Past) (old new : State) (fate : Fate) (given : ImageAnswer) → IsCoreAt past old → StepsImagesBy fate old given new → IsImageAnswer past.standing given
+image_exact past old new fate given_.Idle c d = c.reported.round ∙ ap round_tick (d.stands refl c.images c.has_images).2.0
 image_exact past old new fate given_.Working c d =
-    let s = (d.stands c.images c.has_images).2 in (
+    let s = (d.stands refl c.images c.has_images).2 in (
       is_open past.standing.round s.0.tick (some_round past.standing.round (round_in c.images) s.0 c.reported.round s.1),
       c.reported.image_down ∙ phase_up old.images.phase (λ e. (let g = d.stays_down e in absurd (let h = g in cc))),
     )
 image_exact past old new fate (given_.Opened tick) c d =
-    let s = (d.stands c.images c.has_images).2 in (
+    let s = (d.stands refl c.images c.has_images).2 in (
       some_round past.standing.round (round_in c.images) s.0 c.reported.round s.1 ∙ ap (λ t. Some t) (sym s.2),
       c.reported.image_down ∙ phase_up old.images.phase (λ e. (let g = d.stays_down e in absurd (let h = g in cc))),
     )
 image_exact past old new fate given_.Down c d =
-    let s = (d.stands c.images c.has_images).2 in is_open past.standing.round s.0.tick (some_round past.standing.round (round_in c.images) s.0 c.reported.round s.1)
+    let s = (d.stands refl c.images c.has_images).2 in is_open past.standing.round s.0.tick (some_round past.standing.round (round_in c.images) s.0 c.reported.round s.1)

@@ -1,4 +1,3 @@
-pub mod Bridging
 pub mod Playing
 pub mod Imaging
 pub mod Logging

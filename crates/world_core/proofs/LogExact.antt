@@ -19,12 +19,12 @@ use Rattle.world_core.specs.declared.moves.Move.TheVariants as move
 use Rattle.world_core.specs.declared.moves.Answer.TheVariants as answer
 use Rattle.world_core.specs.Standing.{is_log_waiting}
 use Rattle.world_core.specs.Past.{Past}
-use Rattle.world_core.specs.State.{State, HasLog}
+use Rattle.world_core.specs.State.{State}
 use Rattle.engine.specs.Laws.{EventLaws}
 use Rattle.world_core.specs.Exact.{IsLogAnswer, Progresses}
-use Rattle.world_core.specs.Moving.{StepsLogKeeper}
+use Rattle.world_core.specs.Moving.{StepsLogBy}
 use Rattle.world_core.specs.Facts.{IsCoreAt}
-use Rattle.world_core.proofs.Logging.{up_of, stays_down}
+use Rattle.world_core.proofs.Logging.{HasLog, up_of, stays_down}
 
 -- ---- work
 
@@ -39,7 +39,7 @@ work_in p shut queue h = omega arith
 pub no_work : (keeper : Progress) (queue : List Record) → keeper.phase ≡ Ready → queue ≡ [] → work_of keeper queue ≡ 0
 no_work keeper queue ready empty = λ i. rest_in (ready i) keeper.other_shut + queue_work (empty i)
 
-module _ (old new : State) (fate : Fate) (given : LogAnswer) (d : StepsLogKeeper fate old given new) (live : given ≡ given_.Down → ⊥) where
+module _ (old new : State) (fate : Fate) (given : LogAnswer) (d : StepsLogBy fate old given new) (live : given ≡ given_.Down → ⊥) where
   was_up : old.log.down ≡ false
   was_up = up_of old.log.down (λ e. live (stays_down old new fate given d e))
 
@@ -52,7 +52,7 @@ module _ (old new : State) (fate : Fate) (given : LogAnswer) (d : StepsLogKeeper
   less_work : (given ≡ given_.Idle → ⊥) → work_of new.log new.queue < work_of old.log old.queue
   less_work busy = d.lowers is_up (has_work busy)
 
-pub log_progress : (old new : State) (fate : Fate) (given : LogAnswer) → StepsLogKeeper fate old given new → Progresses (move.Log fate) (answer.Log given) old new
+pub log_progress : (old new : State) (fate : Fate) (given : LogAnswer) → StepsLogBy fate old given new → Progresses (move.Log fate) (answer.Log given) old new
 log_progress old new fate given_.Idle d = tt
 log_progress old new fate given_.Working d = less_work old new fate given_.Working d (λ e. let g = e in cc) (λ e. let g = e in cc)
 log_progress old new fate (given_.Acked tick) d = less_work old new fate (given_.Acked tick) d (λ e. let g = e in cc) (λ e. let g = e in cc)
@@ -74,12 +74,12 @@ receipt_in laws past old new first count tick (Newest images) (Writing logs) lef
 )
 
 pub log_exact : EventLaws → (past : Past) (old new : State) (fate : Fate) (given : LogAnswer) → IsCoreAt past old
-    → is_log_waiting past.standing ≡ false → StepsLogKeeper fate old given new → IsLogAnswer past old given
+    → is_log_waiting past.standing ≡ false → StepsLogBy fate old given new → IsLogAnswer past old given
 log_exact laws past old new fate given_.Idle c going d = (let i = d.idle.0 refl in inr (c.reported.log_down ∙ i.0, no_work old.log old.queue i.1 i.2))
 log_exact laws past old new fate given_.Working c going d =
     (going, c.reported.log_down ∙ was_up old new fate given_.Working d (λ e. let g = e in cc), has_work old new fate given_.Working d (λ e. let g = e in cc) (λ e. let g = e in cc))
 log_exact laws past old new fate (given_.Acked tick) c going d =
-    let s = d.stands c.place c.has_log in
+    let s = d.stands refl c.place c.has_log in
     let r = receipt_in laws past old new (replicate c.size 0) c.follows.count tick c.images c.place.journal c.place.left s.0 c.has_log c.follows.in_step.phase s.2 in (
       ap (nat_lt 0) (c.reported.start_left ∙ r.0),
       c.reported.log_down ∙ was_up old new fate (given_.Acked tick) d

@@ -19,14 +19,15 @@ use Rattle.world_actions.specs.declared.action.Action.{Action}
 use Rattle.image_files.specs.Progress.{left_of}
 use Rattle.world_core.specs.Standing.{Standing, standing_after, is_starting, is_log_waiting}
 use Rattle.world_core.specs.Past.{Past, past_after, past_of}
-use Rattle.world_core.specs.State.{State, HasLog}
+use Rattle.world_core.specs.State.{State}
 use Rattle.world_core.specs.Exact.{IsLogAnswer}
-use Rattle.world_core.specs.Moving.{StepsLogKeeper, Waits}
+use Rattle.world_core.specs.Moving.{StepsLogBy, Waits}
 use Rattle.world_core.specs.Facts.{IsCoreAt}
 use Rattle.world_core.specs.Headline.{Answers, Runs}
 use Rattle.world_core.specs.Repeating.{reported_of, IsReportedAtEnd, Repeats, RepeatsImages, RepeatsLog, ImagesSettled, LogSettled, StartSettled}
 use Rattle.world_core.proofs.Headline.{past_of-more}
 use Rattle.world_core.proofs.Repeating.{SoFar, Stepped, step_ends, replicate_more}
+use Rattle.world_core.proofs.Logging.{HasLog}
 use Rattle.world_core.proofs.LogExact.{no_work}
 
 -- ---- the last move
@@ -101,14 +102,14 @@ no_start keeper queue (InStart start) left standing state is stands e up none =
     absurd (omega (arith, stands.some_left, rest, same, none))
 no_start keeper queue (Writing logs) left standing state is stands e up none = ap (nat_lt 0) (e ∙ stands.1)
 
-idle_work : (fate : Fate) (old new : State) → StepsLogKeeper fate old log_answer.Idle new → work_of new.log new.queue ≡ 0
+idle_work : (fate : Fate) (old new : State) → StepsLogBy fate old log_answer.Idle new → work_of new.log new.queue ≡ 0
 idle_work fate old new d =
     let i = d.idle.0 refl in
     let same = d.rests (inl refl) in
     no_work new.log new.queue (ap (λ (k : Progress). k.phase) same.0 ∙ i.1) (same.1 ∙ i.2)
 
 no_work_after : (fate : Fate) (past : Past) (old new : State) → IsLogAnswer past old log_answer.Idle
-    → (Waits old × (log_answer.Idle ≡ log_answer.Idle) × (new ≡ old)) ⊎ StepsLogKeeper fate old log_answer.Idle new
+    → (Waits old × (log_answer.Idle ≡ log_answer.Idle) × (new ≡ old)) ⊎ StepsLogBy fate old log_answer.Idle new
     → (is_log_waiting past.standing ≡ true) ⊎ ((past.standing.is_log_down ≡ false) × (work_of new.log new.queue ≡ 0))
 no_work_after fate past old new (inl waits) does = inl waits
 no_work_after fate past old new (inr done) (inl same) = inr (done.0, ap (λ (s : State). work_of s.log s.queue) same.2 ∙ done.1)

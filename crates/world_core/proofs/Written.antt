@@ -1,5 +1,5 @@
 -- No crash leaves an empty file of a core, or a short one, from the start's end and from the first ticks on.
-use Rattle.std.proofs.Common.{◌≡◌, ℕ, ◌+◌, ◌<◌, ◌≤◌, ◌⊎◌, inl, inr, Bool, true, false, IsTrue, List, [], ◌∷◌, length}
+use Rattle.std.proofs.Common.{◌≡◌, ℕ, zero, suc, ◌+◌, ◌<◌, ◌≤◌, ◌⊎◌, inl, inr, Bool, true, false, IsTrue, List, [], ◌∷◌, length}
 use Rattle.std.proofs.Common.{take, replicate, Option, Some, None, refl, sym, ap, subst, ◌∙◌, arith}
 use Rattle.std.specs.Prelude.{nat_le}
 use Rattle.std.proofs.lemmas.List.{length-append, length-take}
@@ -11,7 +11,7 @@ use Rattle.file_format.specs.declared.slot.Slot.TheVariants.{A, B}
 use Rattle.file_format.specs.Slot.{of_slot, in_slot, beside_slot, other_slot}
 use Rattle.disk_model.specs.Disk.{Call, Length, Read, Write, Sync, CalledOnce}
 use Rattle.disk_model.specs.FileState.{FileState, Calls}
-use Rattle.disk_model.specs.Fused.{Fails}
+use Rattle.disk_model.specs.Fused.{Fails, CallsThrough}
 use Rattle.disk_model.specs.CrashOutcome.{IsCrashOutcome}
 use Rattle.image_files.specs.declared.phase.Phase.{Phase as ImagePhase}
 use Rattle.image_files.specs.declared.phase.Phase.TheVariants as image_phase
@@ -40,19 +40,20 @@ use Rattle.recovery.specs.Recovery.{Recovery}
 use Rattle.recovery.specs.Restart.{IsBuilt}
 use Rattle.recovery.specs.Start.{IsFirstRound}
 use Rattle.restart.specs.Start.{has_round, is_shut}
+use Rattle.engine.specs.Fuses.{armed}
 use Rattle.engine.specs.Steps.{EndsTick}
+use Rattle.engine.specs.World.{HasImages}
 use Rattle.engine.proofs.Beginning.{started_newest}
 use Rattle.restart.specs.InStep.{HasPhase}
 use Rattle.world_core.specs.declared.moves.Fate.{Fate}
-use Rattle.world_core.specs.declared.moves.Fate.TheVariants as fate_
 use Rattle.world_core.specs.declared.moves.Move.{Move}
 use Rattle.world_core.specs.declared.moves.Move.TheVariants as move
 use Rattle.world_core.specs.declared.moves.Answer.{Answer}
 use Rattle.world_core.specs.declared.moves.Answer.TheVariants as answer
 use Rattle.world_core.specs.Past.{Past, past_after, fresh_past}
-use Rattle.world_core.specs.State.{File, State, files_in, HasImages, HasLog}
+use Rattle.world_core.specs.State.{File, State, files_in, content_of, leaves_of}
 use Rattle.world_core.specs.Starting.{HasOnly, Begins, BeginsFresh, StandsOn}
-use Rattle.world_core.specs.Moving.{CallsBy, StepsImageKeeper, StepsLogKeeper}
+use Rattle.world_core.specs.Moving.{is_failed, StepsImagesBy, StepsLogBy}
 use Rattle.world_core.specs.Exact.{MayLeave}
 use Rattle.world_core.specs.Facts.{IsCoreAt}
 use Rattle.world_core.specs.Headline.{Answers}
@@ -60,6 +61,7 @@ use Rattle.world_core.specs.Laws.{KeeperLaws, SafetyLaws}
 use Rattle.world_core.specs.Written.{NoneIsEmpty, IsWritten, AreWritten, StayWritten}
 use Rattle.world_core.proofs.Safe.{core_is_safe_for}
 use Rattle.world_core.proofs.Imaging.{taken_newest}
+use Rattle.world_core.proofs.Logging.{HasLog}
 use Rattle.world_core.proofs.Recovering.{restarts}
 
 -- ---- a file
@@ -95,12 +97,16 @@ fails_keep old Length new f count w = subst (IsWritten count) (sym f.0) w
 fails_keep old (Read at many) new f count w = subst (IsWritten count) (sym f.0) w
 fails_keep old Sync new f count w = subst (IsWritten count) (sym f.0) w
 
-called_keeps : (fate : Fate) (old : File) (call : Call) (succeeded : Bool) (new : File) → CallsBy fate old call succeeded new → Keeps old new
-called_keeps fate_.Done old call succeeded new c count w = calls_keep old.inner call succeeded new.inner c.0 count w
-called_keeps fate_.Failed old call succeeded new c count w = fails_keep old call new c.1 count w
+due_or_not : (left : Option ℕ) → (left ≡ Some 0) ⊎ (left ≡ Some 0 → ⊥)
+due_or_not (Some zero) = inl refl
+due_or_not (Some (suc more)) = inr (λ e. let g = e in cc)
+due_or_not None = inr (λ e. let g = e in cc)
 
-once_keeps : (fate : Fate) (old new : File) → CalledOnce (CallsBy fate) old new → Keeps old new
-once_keeps fate old new c = called_keeps fate old c.0 c.1 new c.2
+once_keeps : (old new : File) → CalledOnce (CallsThrough Calls) old new → Keeps old new
+once_keeps old new c count w = elim (due_or_not old.left) [
+  | inl due ↦ fails_keep old c.0 new (c.2.due due).1 count w
+  | inr none ↦ calls_keep old.inner c.0 c.1 new.inner (c.2.passed none).0 count w
+]
 
 -- two files of a kind
 by_slot : (slot : Slot) (a new_a b new_b : File) → Keeps (of_slot slot a b) (of_slot slot new_a new_b) × Keeps (of_slot slot b a) (of_slot slot new_b new_a) → Keeps a new_a × Keeps b new_b
@@ -109,45 +115,49 @@ by_slot B a new_a b new_b k = (k.1, k.0)
 
 -- ---- a step of a keeper
 
-module _ (fate : Fate) where
-  image_calls_keep : (phase : ImagePhase) (target new_target newest new_newest : File)
-      → ImageCallsIn phase (CallsBy fate) target new_target newest new_newest → Keeps target new_target × Keeps newest new_newest
-  image_calls_keep image_phase.Idle target new_target newest new_newest c = (same_keeps target new_target c.0, same_keeps newest new_newest c.1)
-  image_calls_keep image_phase.Taking target new_target newest new_newest c = (same_keeps target new_target c.0, same_keeps newest new_newest c.1)
-  image_calls_keep image_phase.Down target new_target newest new_newest c = (same_keeps target new_target c.0, same_keeps newest new_newest c.1)
-  image_calls_keep image_phase.Reading target new_target newest new_newest c = (same_keeps target new_target c.0, once_keeps fate newest new_newest c.1)
-  image_calls_keep phase target new_target newest new_newest c = (once_keeps fate target new_target c.0, same_keeps newest new_newest c.1)
+image_calls_keep : (phase : ImagePhase) (target new_target newest new_newest : File)
+    → ImageCallsIn phase (CallsThrough Calls) target new_target newest new_newest → Keeps target new_target × Keeps newest new_newest
+image_calls_keep image_phase.Idle target new_target newest new_newest c = (same_keeps target new_target c.0, same_keeps newest new_newest c.1)
+image_calls_keep image_phase.Taking target new_target newest new_newest c = (same_keeps target new_target c.0, same_keeps newest new_newest c.1)
+image_calls_keep image_phase.Down target new_target newest new_newest c = (same_keeps target new_target c.0, same_keeps newest new_newest c.1)
+image_calls_keep image_phase.Reading target new_target newest new_newest c = (same_keeps target new_target c.0, once_keeps newest new_newest c.1)
+image_calls_keep phase target new_target newest new_newest c = (once_keeps target new_target c.0, same_keeps newest new_newest c.1)
 
-  image_step_keeps : (old : State) (given : ImageAnswer) (new : State) → StepsImageKeeper fate old given new → Keeps old.files.image_a new.files.image_a × Keeps old.files.image_b new.files.image_b
-  image_step_keeps old given new s =
-      let slot = target_of old.images.newest in
-      by_slot slot old.files.image_a new.files.image_a old.files.image_b new.files.image_b
-      (image_calls_keep old.images.phase (of_slot slot old.files.image_a old.files.image_b) (of_slot slot new.files.image_a new.files.image_b)
-      (of_slot slot old.files.image_b old.files.image_a) (of_slot slot new.files.image_b new.files.image_a) s.calls)
+image_step_keeps : (fate : Fate) (old : State) (given : ImageAnswer) (new : State)
+    → StepsImagesBy fate old given new → Keeps old.files.image_a new.files.image_a × Keeps old.files.image_b new.files.image_b
+image_step_keeps fate old given new s =
+    let slot = target_of old.images.newest in
+    let a = armed (is_failed fate) old.files.image_a in
+    let b = armed (is_failed fate) old.files.image_b in
+    by_slot slot a new.files.image_a b new.files.image_b
+    (image_calls_keep old.images.phase (of_slot slot a b) (of_slot slot new.files.image_a new.files.image_b) (of_slot slot b a) (of_slot slot new.files.image_b new.files.image_a) s.calls)
 
-  log_calls_keep : (phase : Phase) (queue : List Record) (current new_current other new_other : File)
-      → LogCallsIn (CallsBy fate) current new_current other new_other phase queue → Keeps current new_current × Keeps other new_other
-  log_calls_keep Ready [] current new_current other new_other c = (same_keeps current new_current c.0, same_keeps other new_other c.1)
-  log_calls_keep Ready (records.Tick tick ∷ queue) current new_current other new_other c = (once_keeps fate current new_current c.0, same_keeps other new_other c.1)
-  log_calls_keep Ready (records.Switch tick ∷ queue) current new_current other new_other c = (same_keeps current new_current c.0, once_keeps fate other new_other c.1)
-  log_calls_keep Retiring queue current new_current other new_other c = (once_keeps fate current new_current c.0, same_keeps other new_other c.1)
-  log_calls_keep RetiringSync queue current new_current other new_other c = (once_keeps fate current new_current c.0, same_keeps other new_other c.1)
-  log_calls_keep BodySync queue current new_current other new_other c = (once_keeps fate current new_current c.0, same_keeps other new_other c.1)
-  log_calls_keep Gate queue current new_current other new_other c = (once_keeps fate current new_current c.0, same_keeps other new_other c.1)
-  log_calls_keep GateSync queue current new_current other new_other c = (once_keeps fate current new_current c.0, same_keeps other new_other c.1)
-  log_calls_keep phase queue current new_current other new_other c = (same_keeps current new_current c.0, once_keeps fate other new_other c.1)
+log_calls_keep : (phase : Phase) (queue : List Record) (current new_current other new_other : File)
+    → LogCallsIn (CallsThrough Calls) current new_current other new_other phase queue → Keeps current new_current × Keeps other new_other
+log_calls_keep Ready [] current new_current other new_other c = (same_keeps current new_current c.0, same_keeps other new_other c.1)
+log_calls_keep Ready (records.Tick tick ∷ queue) current new_current other new_other c = (once_keeps current new_current c.0, same_keeps other new_other c.1)
+log_calls_keep Ready (records.Switch tick ∷ queue) current new_current other new_other c = (same_keeps current new_current c.0, once_keeps other new_other c.1)
+log_calls_keep Retiring queue current new_current other new_other c = (once_keeps current new_current c.0, same_keeps other new_other c.1)
+log_calls_keep RetiringSync queue current new_current other new_other c = (once_keeps current new_current c.0, same_keeps other new_other c.1)
+log_calls_keep BodySync queue current new_current other new_other c = (once_keeps current new_current c.0, same_keeps other new_other c.1)
+log_calls_keep Gate queue current new_current other new_other c = (once_keeps current new_current c.0, same_keeps other new_other c.1)
+log_calls_keep GateSync queue current new_current other new_other c = (once_keeps current new_current c.0, same_keeps other new_other c.1)
+log_calls_keep phase queue current new_current other new_other c = (same_keeps current new_current c.0, once_keeps other new_other c.1)
 
-  log_step_keeps_by : (down : Bool) (old : State) (given : LogAnswer) (new : State) → old.log.down ≡ down → StepsLogKeeper fate old given new → Keeps old.files.log_a new.files.log_a × Keeps
-      old.files.log_b new.files.log_b
-  log_step_keeps_by false old given new up s =
-      let slot = old.log.current in
-      by_slot slot old.files.log_a new.files.log_a old.files.log_b new.files.log_b
-      (log_calls_keep old.log.phase old.queue (of_slot slot old.files.log_a old.files.log_b) (of_slot slot new.files.log_a new.files.log_b) (of_slot slot old.files.log_b old.files.log_a)
-      (of_slot slot new.files.log_b new.files.log_a) (s.calls up))
-  log_step_keeps_by true old given new down s = (let r = s.rests (inr down) in (same_keeps old.files.log_a new.files.log_a r.2, same_keeps old.files.log_b new.files.log_b r.3))
+log_step_keeps_by : (down : Bool) (fate : Fate) (old : State) (given : LogAnswer) (new : State) → old.log.down ≡ down
+    → StepsLogBy fate old given new → Keeps old.files.log_a new.files.log_a × Keeps old.files.log_b new.files.log_b
+log_step_keeps_by false fate old given new up s =
+    let slot = old.log.current in
+    let a = armed (is_failed fate) old.files.log_a in
+    let b = armed (is_failed fate) old.files.log_b in
+    by_slot slot a new.files.log_a b new.files.log_b
+    (log_calls_keep old.log.phase old.queue (of_slot slot a b) (of_slot slot new.files.log_a new.files.log_b) (of_slot slot b a) (of_slot slot new.files.log_b new.files.log_a) (s.calls up))
+log_step_keeps_by true fate old given new down s =
+    let r = s.rests (inr down) in
+    (same_keeps (armed (is_failed fate) old.files.log_a) new.files.log_a r.2, same_keeps (armed (is_failed fate) old.files.log_b) new.files.log_b r.3)
 
-  log_step_keeps : (old : State) (given : LogAnswer) (new : State) → StepsLogKeeper fate old given new → Keeps old.files.log_a new.files.log_a × Keeps old.files.log_b new.files.log_b
-  log_step_keeps old given new s = log_step_keeps_by old.log.down old given new refl s
+log_step_keeps : (fate : Fate) (old : State) (given : LogAnswer) (new : State) → StepsLogBy fate old given new → Keeps old.files.log_a new.files.log_a × Keeps old.files.log_b new.files.log_b
+log_step_keeps fate old given new s = log_step_keeps_by old.log.down fate old given new refl s
 
 -- ---- files with an open image or segment
 
@@ -225,12 +235,12 @@ not_both b is isnt = absurd (let e : true ≡ false = sym is ∙ isnt in cc)
 
 -- a keeper that is down stays in its start
 was_up : (fate : Fate) (down : Bool) (old : State) (given : LogAnswer) (new : State) → old.log.down ≡ down
-    → StepsLogKeeper fate old given new → old.log.starting ≡ true → new.log.starting ≡ false → old.log.down ≡ false
+    → StepsLogBy fate old given new → old.log.starting ≡ true → new.log.starting ≡ false → old.log.down ≡ false
 was_up fate false old given new e s was is = e
 was_up fate true old given new e s was is = absurd (not_both new.log.starting (ap (λ (k : LogProgress). k.starting) (s.rests (inr e)).0 ∙ was) is)
 
 -- the start's last step leaves both logs written
-start_ends : KeeperLaws → (fate : Fate) (old new : State) (journal : Journal) (left : ℕ) (given : LogAnswer) (next : LogPlace) → StepsLogKeeper fate old given new
+start_ends : KeeperLaws → (fate : Fate) (old new : State) (journal : Journal) (left : ℕ) (given : LogAnswer) (next : LogPlace) → StepsLogBy fate old given new
     → HasLog old (record { journal = journal; left = left }) → HasLog new next → StepIn journal left old.queue given next new.queue
     → old.log.starting ≡ true → new.log.starting ≡ false → IsWritten 10 new.files.log_a.inner × IsWritten 1 new.files.log_b.inner
 start_ends keepers fate old new (Writing logs) left given next s had has step was is = absurd (not_both old.log.starting was had.0.over)
@@ -247,10 +257,10 @@ start_ends keepers fate old new (InStart start) left log_given.Working next s ha
 ]
 
 log_ends : KeeperLaws → (fate : Fate) (old new : State) (place : LogPlace) (given : LogAnswer) → HasLog old place
-    → StepsLogKeeper fate old given new → old.log.starting ≡ true → new.log.starting ≡ false
+    → StepsLogBy fate old given new → old.log.starting ≡ true → new.log.starting ≡ false
     → IsWritten 10 new.files.log_a.inner × IsWritten 1 new.files.log_b.inner
 log_ends keepers fate old new place given has s was is =
-    let next = s.stands place has in
+    let next = s.stands refl place has in
     start_ends keepers fate old new place.journal place.left given next.0 s has next.1 next.2 was is
 
 -- ---- a round's end
@@ -275,7 +285,8 @@ first_tick first ticks acknowledged images (Writing logs) queue round h some = a
 -- a round that ends leaves two images that are written, except the first one
 opened_written : KeeperLaws → (past : Past) (old new : State) (first : List ℕ) (count : ℕ) (images : ImageFiles) (journal : Journal) (round : Round)
     → HasPhase first past.history.ticks count images journal old.queue → round_in images ≡ Some round
-    → HasImages new (with_opened round images) → 0 < newest_tick (newest_in (with_opened round images)) → IsWritten 17 new.files.image_a.inner × IsWritten 17 new.files.image_b.inner
+    → HasImages content_of leaves_of new (with_opened round images) → 0 < newest_tick (newest_in (with_opened round images))
+    → IsWritten 17 new.files.image_a.inner × IsWritten 17 new.files.image_b.inner
 opened_written keepers past old new first count (NoneYet images) journal round phase some has after_first =
     absurd (omega (arith, after_first, first_tick first past.history.ticks count images journal old.queue round phase some))
 opened_written keepers past old new first count (Newest images) journal round phase some has after_first =
@@ -283,10 +294,10 @@ opened_written keepers past old new first count (Newest images) journal round ph
     both_open (other_slot images.slot) new.files.image_a.inner new.files.image_b.inner round.tick images.tick round.taken images.words left.newest left.target
 
 image_step_written : KeeperLaws → (past : Past) (fate : Fate) (old : State) (given : ImageAnswer) (new : State)
-    → IsCoreAt past old → StepsImageKeeper fate old given new → AreWritten past old
+    → IsCoreAt past old → StepsImagesBy fate old given new → AreWritten past old
     → 0 < newest_tick new.images.newest → IsWritten 17 new.files.image_a.inner × IsWritten 17 new.files.image_b.inner
 image_step_written keepers past fate old given new c s w after_first =
-    let next = s.stands c.images c.has_images in
+    let next = s.stands refl c.images c.has_images in
     let was : old.images.newest ≡ newest_in c.images = keepers.newest old.images c.images old.files.image_a old.files.image_b c.has_images in
     let is : new.images.newest ≡ newest_in next.0 = keepers.newest new.images next.0 new.files.image_a new.files.image_b next.1 in
     let keeps = image_step_keeps fate old given new s in
@@ -296,7 +307,7 @@ image_step_written keepers past fate old given new c s w after_first =
           let both = w.imaged before in
           (keeps.0 17 both.0, keeps.1 17 both.1))
       | inr opened ↦ (
-          let has = subst (HasImages new) opened.1 next.1 in
+          let has = subst (HasImages content_of leaves_of new) opened.1 next.1 in
           opened_written keepers past old new (replicate c.size 0) c.follows.count c.images c.place.journal opened.0 c.follows.in_step.phase opened.2 has
           (subst (λ n. 0 < newest_tick n) (is ∙ ap newest_in opened.1) after_first))
     ]
@@ -356,7 +367,7 @@ same_written past next old new ticks is w =
     (ap (λ (s : State). s.files.image_a) is) (ap (λ (s : State). s.files.image_b) is) w
 
 image_written : KeeperLaws → (past next : Past) (fate : Fate) (old : State) (given : ImageAnswer) (new : State)
-    → next.history.ticks ≡ past.history.ticks → IsCoreAt past old → StepsImageKeeper fate old given new
+    → next.history.ticks ≡ past.history.ticks → IsCoreAt past old → StepsImagesBy fate old given new
     → AreWritten past old → AreWritten next new
 image_written keepers past next fate old given new ticks c s w =
     let log_a = same_keeps old.files.log_a new.files.log_a (ap (λ (s : State). s.files.log_a) s.rest) in
@@ -367,13 +378,13 @@ image_written keepers past next fate old given new ticks c s w =
       imaged = image_step_written keepers past fate old given new c s w;
     }
 
-log_started : KeeperLaws → (past : Past) (fate : Fate) (old : State) (given : LogAnswer) (new : State) → IsCoreAt past old → StepsLogKeeper fate old given new → AreWritten past old
+log_started : KeeperLaws → (past : Past) (fate : Fate) (old : State) (given : LogAnswer) (new : State) → IsCoreAt past old → StepsLogBy fate old given new → AreWritten past old
     → (was : Bool) → old.log.starting ≡ was → new.log.starting ≡ false → IsWritten 10 new.files.log_a.inner × IsWritten 1 new.files.log_b.inner
 log_started keepers past fate old given new c s w true was is = log_ends keepers fate old new c.place given c.has_log s was is
 log_started keepers past fate old given new c s w false was is = (let both = w.started was in let keeps = log_step_keeps fate old given new s in (keeps.0 10 both.0, keeps.1 1 both.1))
 
 log_written : KeeperLaws → (past next : Past) (fate : Fate) (old : State) (given : LogAnswer) (new : State)
-    → next.history.ticks ≡ past.history.ticks → IsCoreAt past old → StepsLogKeeper fate old given new
+    → next.history.ticks ≡ past.history.ticks → IsCoreAt past old → StepsLogBy fate old given new
     → AreWritten past old → AreWritten next new
 log_written keepers past next fate old given new ticks c s w =
     let keeps = log_step_keeps fate old given new s in
@@ -438,7 +449,7 @@ images_left B a b tick from words older ia ib chosen newest written oa ob is som
 )
 
 images_left_by : KeeperLaws → (past : Past) (state : State) (first : List ℕ) (count : ℕ) (images : ImageFiles) (journal : Journal)
-    → HasImages state images → HasPhase first past.history.ticks count images journal state.queue → AreWritten past state
+    → HasImages content_of leaves_of state images → HasPhase first past.history.ticks count images journal state.queue → AreWritten past state
     → (r : Recovery) (ia ib : List ℕ) (la lb : Segment) → IsBuilt r (image_of ia) (image_of ib) la lb
     → r.tick ≤ length past.history.ticks → IsCrashOutcome state.files.image_a.inner ia → IsCrashOutcome state.files.image_b.inner ib
     → 0 < r.from → (17 ≤ length ia) × (17 ≤ length ib)

@@ -32,7 +32,7 @@ pub struct Core<C: Capture> {
 }
 
 impl<C: Capture> Model for Core<C> {
-    ghost use Rattle.world_core.specs.State.{State, AreUnarmed};
+    ghost use Rattle.world_core.specs.State.{State};
     ghost use Rattle.world_core.specs.Past.{Past};
     ghost use Rattle.world_core.specs.Facts.{IsCoreAt};
 
@@ -40,8 +40,7 @@ impl<C: Capture> Model for Core<C> {
 
     ghost view = { λ core. core.engine };
 
-    ghost invariant = { λ core. AreUnarmed core.engine.files
-        × ((past : Past) × IsCoreAt past core.engine) };
+    ghost invariant = { λ core. (past : Past) × IsCoreAt past core.engine };
 }
 
 impl<C: Capture> Core<C> {
@@ -190,7 +189,6 @@ impl<C: Capture> Core<C> {
         keeper_laws::<File>();
         self.engine.arm_images(fate.is_failed());
         let given = self.engine.step_images();
-        self.engine.arm_images(false);
         self.engine.in_order();
         given
     }
@@ -219,7 +217,6 @@ impl<C: Capture> Core<C> {
         }
         self.engine.arm_log(fate.is_failed());
         let given = self.engine.step_log();
-        self.engine.arm_log(false);
         self.engine.in_order();
         given
     }

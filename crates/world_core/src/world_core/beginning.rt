@@ -1,4 +1,4 @@
-ghost use Rattle.std.specs.Prelude.{◌≡◌, ◌≢◌, ◌⊎◌, ◌↔◌, ◌≤◌, All, Err, None, IsTrue, IfOk, IfErr};
+ghost use Rattle.std.specs.Prelude.{◌≡◌, ◌≢◌, ◌⊎◌, ◌↔◌, ◌≤◌, All, Err, IsTrue, IfOk, IfErr};
 ghost use Rattle.std.specs.Prelude.{length};
 ghost use Rattle.world_actions.specs.World.{IsWord};
 ghost use Rattle.world_actions.specs.declared.world.TheConstants.{CELLS};
@@ -6,7 +6,6 @@ ghost use Rattle.world_ticks.specs.declared.tick.TheConstants.{TICK_MAX};
 ghost use Rattle.disk_model.specs.CrashOutcome.{IsCrashOutcome};
 ghost use Rattle.image_files.specs.Files.{HoldsNewest};
 ghost use Rattle.recovery.specs.Recovery.{Recovers};
-ghost use Rattle.world_core.specs.State.{AreUnarmed};
 ghost use Rattle.world_core.specs.Starting.{HasOnly, AreFiles, Begins, StandsOn};
 
 use crate::laws::{File, safety_laws};
@@ -39,7 +38,6 @@ impl<C: Capture> Core<C> {
             left.image_a.items left.image_b.items }
         ensures begins { IfOk result (Begins newest tick words.now
             left.image_a.items left.image_b.items left.log_a.items left.log_b.items) }
-        ensures unarmed { IfOk result (λ engine. AreUnarmed engine.files) }
         ensures memory { IfErr result (λ refusal. refusal ≡ Refusal.NoMemory) }
     {
         safety_laws();
@@ -81,7 +79,6 @@ impl<C: Capture> Core<C> {
         requires { (1 ≤ cells) × (cells ≤ CELLS) }
         ensures stands { IfOk result (λ made. StandsOn cells
             left.image_a.items left.image_b.items left.log_a.items left.log_b.items made.1 made.0) }
-        ensures unarmed { IfOk result (λ made. AreUnarmed made.0.files) }
         ensures refused { IfErr result (λ refusal. (refusal ≡ Refusal.NoMemory)
             ⊎ ((refusal ≢ Refusal.NoImage)
             × Recovers left.image_a.items left.image_b.items left.log_a.items
@@ -119,7 +116,6 @@ impl<C: Capture> Core<C> {
 fn files_of(alloc: Global, left: Remains) -> Result<FourFiles<File>, Refusal>
     ensures files { IfOk result (AreFiles left.image_a.items left.image_b.items
         left.log_a.items left.log_b.items) }
-    ensures unarmed { IfOk result AreUnarmed }
     ensures memory { IfErr result (λ refusal. refusal ≡ Refusal.NoMemory) }
 {
     let Remains {
@@ -139,7 +135,6 @@ fn files_of(alloc: Global, left: Remains) -> Result<FourFiles<File>, Refusal>
 // A file of which these bytes are durable.
 fn file_of(alloc: Global, bytes: Vec<u8>) -> Result<File, Refusal>
     ensures only { IfOk result (λ file. HasOnly bytes.items file) }
-    ensures unarmed { IfOk result (λ file. file.left ≡ None) }
     ensures memory { IfErr result (λ refusal. refusal ≡ Refusal.NoMemory) }
 {
     Ok(Fused::new(ModelFile::new(alloc, bytes)?))

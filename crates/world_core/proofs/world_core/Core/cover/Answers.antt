@@ -1,26 +1,17 @@
-use Rattle.std.proofs.Common.{sym, subst, ap, ◌∙◌}
-use Rattle.world_core.specs.State.{State}
+use Rattle.std.proofs.Common.{sym, subst, ◌∙◌}
 use Rattle.world_core.specs.Facts.{IsCoreAt}
 use Rattle.world_core.specs.Exact.{IsCoverAnswer}
 use Rattle.world_core.specs.declared.moves.Answer.TheVariants as answer
-use Rattle.world_core.proofs.Bridging.{still_unarmed}
 use Rattle.world_core.proofs.Covering.{cover_keeps, cover_exact}
 use Rattle.world_core.proofs.world_core.Core.cover.Goals as goal
-
-pub invariant_of-self : goal.invariant_of-self
-invariant_of-self g c = (
-  still_unarmed c.self.inside.engine c.cover-given.new.self (ap (λ (s : State). s.files) c.cover-given.ensures.rest) c.self.invariant.0,
-  (
-    _,
-    cover_keeps c.event_laws.ensures c.keeper_laws.ensures c.self.invariant.1.0 c.self.inside.engine c.cover-given.new.self c.args.tick c.cover-given.result c.self.invariant.1.1
-        c.in_default.ensures.allowed.0 c.in_default.ensures.allowed.1 c.cover-given.ensures c.in_order.ensures,
-  ),
-)
 
 pub returns-clause-keeps : goal.returns-clause-keeps
 returns-clause-keeps g c = λ past h.
     cover_keeps c.event_laws.ensures c.keeper_laws.ensures past c.self.inside.engine c.cover-given.new.self c.args.tick c.cover-given.result (subst (IsCoreAt past) (sym c.self.view_is) h)
     c.in_default.ensures.allowed.0 c.in_default.ensures.allowed.1 c.cover-given.ensures c.in_order.ensures
+
+pub invariant_of-self : goal.invariant_of-self
+invariant_of-self g c = (_, returns-clause-keeps g c c.self.invariant.0 (subst (IsCoreAt c.self.invariant.0) c.self.view_is c.self.invariant.1))
 
 pub returns-clause-exact : goal.returns-clause-exact
 returns-clause-exact g c = λ past h.

@@ -1,39 +1,37 @@
-use Rattle.std.proofs.Common.{◌&&◌, inr, refl, sym, ap, ◌∙◌}
-use Rattle.engine.specs.Refusals.{is_in_round}
-use Rattle.world_core.specs.State.{State}
-use Rattle.world_core.proofs.Bridging.{log_moves}
+use Rattle.std.proofs.Common.{true, inr, sym, ap, subst, ◌∙◌}
+use Rattle.disk_model.specs.FileState.{Calls}
+use Rattle.disk_model.specs.Fused.{CallsThrough}
+use Rattle.engine.specs.Fuses.{log_armed}
+use Rattle.engine.specs.Steps.{TakesLogStep}
+use Rattle.world_core.specs.State.{State, content_of, leaves_of, failures}
+use Rattle.world_core.specs.Moving.{StepsLogBy}
+use Rattle.world_core.specs.Facts.{IsCoreAt}
 use Rattle.world_core.proofs.Exact.{no_wait, waiting_is}
 use Rattle.world_core.proofs.Logging.{log_keeps}
 use Rattle.world_core.proofs.LogExact.{log_progress, log_exact}
 use Rattle.world_core.proofs.world_core.Core.log.Goals as goal
 
-pub invariant_of-self : goal.invariant_of-self
-invariant_of-self g c =
-    let was = c.self.inside.engine in
-    let m = log_moves c.args.fate c.is_failed.result was was c.step_log-given.result c.arm_log.new.self c.step_log-given.new.self c.arm_log-2.new.self refl c.is_failed.ensures c.self.invariant.0
-    c.self.invariant.1.1.order c.in_order.ensures c.arm_log.ensures c.step_log-given.ensures.steps c.arm_log-2.ensures in (
-      m.1,
-      (
-        _,
-        log_keeps c.event_laws.ensures c.self.invariant.1.0 was c.arm_log-2.new.self c.args.fate c.step_log-given.result c.self.invariant.1.1 c.in_order.ensures
-            (no_wait c.keeper_laws.ensures c.self.invariant.1.0 was c.self.invariant.1.1
-            (ap (λ (s : State). s.log.starting && is_in_round s.images.phase) c.self.view_is ∙ sym c.log_waits.ensures ∙ c.if-log_waits.false)) m.0,
-      ),
-    )
+stepped : (g : _) (c : goal.After-in_order g) → StepsLogBy c.args.fate c.args.self.now c.step_log-given.result c.step_log-given.new.self
+stepped g c = subst (λ (s : State). TakesLogStep content_of leaves_of true failures (CallsThrough Calls) s c.step_log-given.result c.step_log-given.new.self)
+    (c.arm_log.ensures ∙ (λ i. log_armed (c.is_failed.ensures i) (c.self.view_is i))) c.step_log-given.ensures.steps
 
-pub returns : goal.returns
-returns g c =
-    let old = c.args.self.now in
-    let new = c.arm_log-2.new.self in
-    let m = log_moves c.args.fate c.is_failed.result c.self.inside.engine old c.step_log-given.result c.arm_log.new.self c.step_log-given.new.self new c.self.view_is c.is_failed.ensures
-    c.self.invariant.0
-    c.self.invariant.1.1.order c.in_order.ensures c.arm_log.ensures c.step_log-given.ensures.steps c.arm_log-2.ensures in
-    record {
-      keeps = λ past h. log_keeps c.event_laws.ensures past old new c.args.fate c.step_log-given.result h c.in_order.ensures
-          (no_wait c.keeper_laws.ensures past old h (sym c.log_waits.ensures ∙ c.if-log_waits.false)) m.0;
-      exact = λ past h. log_exact c.event_laws.ensures past old new c.args.fate c.step_log-given.result h
-          (sym (waiting_is c.keeper_laws.ensures past old h) ∙ sym c.log_waits.ensures ∙ c.if-log_waits.false) m.0;
-      does = inr m.0;
-      cells = ap (λ (s : State). s.images.cells) m.0.rest;
-      progress = log_progress old new c.args.fate c.step_log-given.result m.0;
-    }
+pub returns-clause-keeps : goal.returns-clause-keeps
+returns-clause-keeps g c = λ past h.
+    log_keeps c.event_laws.ensures past c.args.self.now c.step_log-given.new.self c.args.fate c.step_log-given.result h c.in_order.ensures
+    (no_wait c.keeper_laws.ensures past c.args.self.now h (sym c.log_waits.ensures ∙ c.if-log_waits.false)) (stepped g c)
+
+pub invariant_of-self : goal.invariant_of-self
+invariant_of-self g c = (_, returns-clause-keeps g c c.self.invariant.0 (subst (IsCoreAt c.self.invariant.0) c.self.view_is c.self.invariant.1))
+
+pub returns-clause-exact : goal.returns-clause-exact
+returns-clause-exact g c = λ past h. log_exact c.event_laws.ensures past c.args.self.now c.step_log-given.new.self c.args.fate c.step_log-given.result h
+    (sym (waiting_is c.keeper_laws.ensures past c.args.self.now h) ∙ sym c.log_waits.ensures ∙ c.if-log_waits.false) (stepped g c)
+
+pub returns-clause-does : goal.returns-clause-does
+returns-clause-does g c = inr (stepped g c)
+
+pub returns-clause-cells : goal.returns-clause-cells
+returns-clause-cells g c = ap (λ (s : State). s.images.cells) (stepped g c).rest
+
+pub returns-clause-progress : goal.returns-clause-progress
+returns-clause-progress g c = log_progress c.args.self.now c.step_log-given.new.self c.args.fate c.step_log-given.result (stepped g c)
