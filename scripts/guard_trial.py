@@ -1048,9 +1048,9 @@ class Trial:
             folder = self.world(ASK)
             variables, _ = self.failing("fdatasync", name, place, errno.EIO)
             with self.serve(folder, variables=variables) as server:
-                client, end = surroundings_trial.Client(server.address), time.monotonic() + PATIENCE_SECONDS
+                sender, end = surroundings_trial.Client(server.address), time.monotonic() + PATIENCE_SECONDS
                 while f"worldd: {wanted[0]}" not in server.errors.read_text():
-                    client.play()
+                    sender.play()
                     want(time.monotonic() < end, f"no sync of {name} fails")
                 self.checked(folder, wanted[0], wanted, f"running, {parts}")
         folder, tick, guard = self.older_world(self.chance("checks"))

@@ -339,12 +339,12 @@ def try_words(trial: Trial) -> None:
             listed = folder / "words"
             listed.write_text(text)
             line = "create", "--dir", str(folder), "--words", str(listed)
-            other = f"fault 16\nworldd: {listed}: --cells isn't the number of its words, {len(words)}\n"
+            refusal = f"fault 16\nworldd: {listed}: --cells isn't the number of its words, {len(words)}\n"
             for asked in (len(words) - 1, len(words) + 1):
-                trial.ends(f"{asked} of the words {text!r}", trial.run(*line, "--cells", str(asked)), "", other, 1)
+                trial.ends(f"{asked} of the words {text!r}", trial.run(*line, "--cells", str(asked)), "", refusal, 1)
             trial.check(f"another number of the words {text!r}", list(folder.iterdir()), [listed])
-            asked = ("--cells", str(len(words))) if len(words) > 2 else ()
-            trial.ends(f"the words {text!r}", trial.run(*line, *asked), f"created {len(words)}\n", "", 0)
+            count = ("--cells", str(len(words))) if len(words) > 2 else ()
+            trial.ends(f"the words {text!r}", trial.run(*line, *count), f"created {len(words)}\n", "", 0)
             image = b"\1" + struct.pack(f"<QQ{len(words)}Q", len(words) + (0x20 << 56), 0, *words)
             trial.check(f"the words {text!r}", files_of(folder), (image, b"", b"", b""))
             found = trial.run("inspect", "--words", "--dir", str(folder)).output.splitlines()
@@ -373,11 +373,11 @@ def try_words(trial: Trial) -> None:
             trial.ends(f"the words {text[:20]!r}", got, "", f"fault 16\nworldd: {listed}: {why}\n", 1)
             trial.check(f"the words {text[:20]!r}", list(folder.iterdir()), [listed])
     with new_folder(b"", NEW_IMAGE, b"", b"") as folder, new_folder(b"7\n") as other:
-        line = "create", "--dir", str(folder), "--words"
-        occupied = trial.run(*line, str(other / "image.a"))
+        create = "create", "--dir", str(folder), "--words"
+        occupied = trial.run(*create, str(other / "image.a"))
         trial.ends("words over a world", occupied, "", fault_of(folder, 22, "image.b", HOLDS_A_WORLD), 1)
         trial.check("words over a world", files_of(folder), (b"", NEW_IMAGE, b"", b""))
-        trial.ends("no words", trial.run(*line, str(other / "none")), "", fault_of(other, 18, "none", NO_FILE), 1)
+        trial.ends("no words", trial.run(*create, str(other / "none")), "", fault_of(other, 18, "none", NO_FILE), 1)
 
 
 def try_larger(trial: Trial) -> None:
