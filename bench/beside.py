@@ -23,7 +23,7 @@ import tempfile
 from systems import LIBRARY, PORT, SOCKET, Load, Sample, System, systems
 
 COLUMNS = "system", "transport", "clients", "lines", "sets", "batches", "ratio", "wait", "processor", "processor_ratio"
-HEAD = f"{'':<14} {'sets/s':>10} {'batches/s':>10} {'ratio':>6} {'p50, ms':>9} {'us/batch':>9} {'ratio':>6}"
+HEAD = f"{'':<21} {'sets/s':>10} {'batches/s':>10} {'ratio':>6} {'p50, ms':>9} {'us/batch':>9} {'ratio':>6}"
 
 
 def figures_of(runs: list[Sample], field: str) -> list[float]:
@@ -98,7 +98,7 @@ def print_rows(load: Load, rows: list[list[str]]) -> None:
         print(f"{load.clients} clients, {load.lines} sets a batch, {transport}")
         print(HEAD)
         for name, _, _, _, sets, batches, ratio, wait, processor, processor_ratio in (row for row in rows if row[1] == transport):
-            print(f"{name:<14} {sets:>10} {batches:>10} {ratio:>6} {wait:>9} {processor:>9} {processor_ratio:>6}")
+            print(f"{name:<21} {sets:>10} {batches:>10} {ratio:>6} {wait:>9} {processor:>9} {processor_ratio:>6}")
         print(flush=True)
 
 
@@ -123,6 +123,7 @@ def arguments() -> argparse.Namespace:
     parser.add_argument("--lines", type=int, nargs="+", default=[1, 16], help="how many sets a batch has")
     parser.add_argument("--transport", nargs="+", choices=(PORT, SOCKET), default=[PORT, SOCKET])
     parser.add_argument("--every", type=int, nargs="+", default=[4096], help="after how many ticks worldd makes an image")
+    parser.add_argument("--guard", action="store_true", help="measure worldd with a guard, too")
     parser.add_argument("--only", nargs="+", metavar="WORD", help="the systems beside Redis whose names begin so")
     parser.add_argument("--runs", type=int, default=5, help="how many runs of each kind")
     parser.add_argument("--seconds", type=int, default=3, help="how long a run takes")
@@ -151,7 +152,8 @@ def main() -> None:
         pathlib.Path(room).chmod(0o711)
         folder = pathlib.Path(room) / "data"
         folder.mkdir()
-        found = installed(systems(given.worldd, given.world_load, given.every, room), given.only)
+        guards: list[list[str]] = [[], ["--guard"]] if given.guard else [[]]
+        found = installed(systems((given.worldd, given.world_load), given.every, guards, room), given.only)
         for clients in given.clients:
             for lines in given.lines:
                 loads = [Load(transport, clients, lines, given.seconds) for transport in given.transport]

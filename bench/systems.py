@@ -5,6 +5,7 @@ import contextlib
 import csv
 import dataclasses
 import functools
+import itertools
 import os
 import pathlib
 import pwd
@@ -155,13 +156,14 @@ def run_redis(folder: pathlib.Path, load: Load) -> Sample:
 # worldd
 
 
-def run_worldd(worldd: str, world_load: str, method: str, every: int, folder: pathlib.Path, load: Load) -> Sample:
-    """A run of worldd by this method, with an image after every so many ticks."""
-    subprocess.run([worldd, "create", "--dir", ".", "--cells", str(CELLS)], cwd=folder, check=True, stdout=QUIET)
+def run_worldd(programs: tuple[str, str], method: str, every: int, guard: list[str], folder: pathlib.Path, load: Load) -> Sample:
+    """A run of worldd by this method, with an image after every so many ticks. It may keep a guard."""
+    worldd, world_load = programs
+    subprocess.run([worldd, "create", "--dir", ".", "--cells", str(CELLS), *guard], cwd=folder, check=True, stdout=QUIET)
     path = str(folder / "worldd.socket")
     listening = {PORT: ["--port", "0"], SOCKET: ["--socket", path]}[load.transport]
     # One client more than play, so that it doesn't end before its processor time is read.
-    flags = ["--method", method, "--every", str(every), "--clients", str(load.clients + 1), *listening]
+    flags = ["--method", method, "--every", str(every), "--clients", str(load.clients + 1), *guard, *listening]
     with running([worldd, "serve", "--dir", ".", *flags], folder) as server:
         assert server.stdout is not None
         address = [server.stdout.readline() for _ in range(2)][1].split()[1]
@@ -248,14 +250,14 @@ def postgres_user() -> str:
     return "postgres" if "postgres" in names else "nobody"
 
 
-def systems(worldd: str, world_load: str, every: list[int], room: str) -> list[System]:
-    """All systems. The others are measured beside Redis, which is the first one."""
+def systems(programs: tuple[str, str], every: list[int], guards: list[list[str]], room: str) -> list[System]:
+    """All systems, worldd by each of these flags. The others are measured beside Redis, which is the first one."""
     both = PORT, SOCKET
     found = [System("Redis", both, missing("redis-server", "redis-cli", "redis-benchmark"), run_redis)]
     for method in ("zigzag", "pingpong"):
-        for ticks in every:
-            run = functools.partial(run_worldd, worldd, world_load, method, ticks)
-            found.append(System(f"{method} {ticks}", both, [], run))
+        for ticks, guard in itertools.product(every, guards):
+            run = functools.partial(run_worldd, programs, method, ticks, guard)
+            found.append(System(" ".join([method, str(ticks), *guard]), both, [], run))
     lacks = missing("postgres", "initdb", "pg_isready", "psql", "pgbench")
     found.append(System("PostgreSQL", both, lacks, functools.partial(run_postgres, postgres_user())))
     compiler = missing("cc")
