@@ -26,9 +26,11 @@ SECTORS, UDF, EVERY = {"btrfs": 4096}, {"fs": "udf", "options": "rw"}, (1, 8, 64
 CUTS_OF_A_RUN, RUNS_OF_A_DISK, PATIENCE_SECONDS, WRITE_SECONDS = 60, 4, 600, 0.001
 # How likely the power is cut after a request of the disk, and before a flush is done: until clients are served, and then.
 NEVER, EARLY, LATE = {"request": 0.0, "flush": 0.0}, {"request": 0.06, "flush": 0.4}, {"request": 0.02, "flush": 0.1}
-# In every other run a write with these bytes, which the log has of each tick, takes longer: covers come by that. A disk that
-# drops flushes keeps so many writes back. To show that a sync matters may take so many times the cuts.
-SLOW_LOG, KEPT_BACK, SHOWN = (struct.pack("<BIq", 2, COUNT, 1), 0.05), 64, 5
+# In every other run a write with these bytes, which the log has of each tick, takes so much longer: covers come by that. Until
+# one was met, each cut in play lets it take longer still, up to a bound: an image takes seconds on a slow machine.
+SLOW_LOG, SLOW_SECONDS, SLOWER, SLOWEST_SECONDS = struct.pack("<BIq", 2, COUNT, 1), 0.05, 1.2, 2.0
+# A disk that drops flushes keeps so many writes back. To show that a sync matters may take so many times the cuts.
+KEPT_BACK, SHOWN = 64, 5
 CREATE, MOUNT, PARTS = "in create", "in a mount", {"created": "just created", "recovered": "in a start", "listening": "in play"}
 STOOD = "in a round", "in a switch", "covered", "tail of log.a", "tail of log.b", "from image.a", "from image.b", "kept more"
 KINDS, MENDED = (*WAYS, CREATE, MOUNT, *PARTS.values(), "no world", *STOOD), "mended by e2fsck"
@@ -51,6 +53,7 @@ class Trial(Rig):
     def __init__(self, given: argparse.Namespace, folder: pathlib.Path, fault: str) -> None:
         super().__init__(given, folder, "" if fault in ("", FLUSHES) else "left_out_syncs.c", fault)
         self.fresh, self.is_udf = Found("recovered 0 from 0", 0, 0, "image.a", [0] * given.cells, False), given.fs == "udf"
+        self.slow_seconds = SLOW_SECONDS
 
     def serve(self, run: int, image: bytearray, before: Found | None, cuts: int) -> tuple[bytearray, Found | None]:
         """Lets a machine serve until the power was cut so often, and gives a disk that was left, with the world on it."""
@@ -61,8 +64,9 @@ class Trial(Rig):
         self.answered: Answered = {}
         self.waiting: dict[int, Batch] = {}
         with self.machine(SERVES, bytearray(image), CLIENTS, **words, wakes=60_000 if self.is_udf else 10) as machine:
-            machine.slow, machine.kept_back = SLOW_LOG if run % 4 in (0, 3) else (b"", 0), KEPT_BACK * (self.fault == FLUSHES)
+            machine.kept_back = KEPT_BACK * (self.fault == FLUSHES)
             while cuts and time.monotonic() < end:
+                machine.slow = (SLOW_LOG, self.slow_seconds) if run % 4 in (0, 3) else (b"", 0)
                 for port, line in machine.events(WRITE_SECONDS):
                     match, word = re.match(r"tick (\d+):", line), line.partition(" ")[0]
                     if port == DISK and cuts and random.random() < chances[word]:
@@ -97,6 +101,8 @@ class Trial(Rig):
         found = found_in(lines[0], lines)
         judge(self.before, found, self.answered, frozenset(self.waiting.values()))
         self.tally.update([*["no world"] * is_unmade, *self.stood(found, lines)])
+        if machine.slow[0] and self.part == PARTS["listening"] and not self.tally["covered"]:
+            self.slow_seconds = min(SLOWER * self.slow_seconds, SLOWEST_SECONDS)
         return None if is_unmade else found
 
     def stood(self, found: Found, lines: list[str]) -> list[str]:
