@@ -6,6 +6,7 @@ use Rattle.std.specs.declared.io.Error.{Error}
 use Rattle.std.specs.declared.io.ErrorKind.TheVariants.{OutOfMemory}
 use Rattle.disk_model.specs.declared.four_files.FourFiles.{FourFiles}
 use Rattle.world_folder.specs.declared.entry.Entry.{Entry}
+use Rattle.world_folder.specs.declared.guard.Guard.{Guard}
 use Rattle.world_folder.specs.declared.locks.LockState.{LockState}
 use Rattle.world_folder.specs.declared.world_file.WorldFile.{WorldFile}
 use Rattle.world_folder.specs.declared.world_file.WorldFile.TheVariants.{ImageA, ImageB, LogA, LogB}
@@ -36,6 +37,9 @@ pub data Act : Type 0 where
   OwnNameSynced : Act
   -- the file under a name was removed
   Removed : WorldFile → Act
+  -- the guard of the world was read, if it has one, and was put into the folder
+  GuardRead : Option Guard → Act
+  GuardPut : Guard → Act
   -- the folder has no file
   FoundEmpty : Act
   -- the folder doesn't lie in the folder at this path

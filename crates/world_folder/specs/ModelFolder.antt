@@ -2,7 +2,7 @@
 use Rattle.std.specs.Prelude.{List, [], ◌∷◌, string_bytes}
 use Rattle.world_folder.specs.History.{Act, Looked, Opened, Made, Locked, Read, Measured, Asked}
 use Rattle.world_folder.specs.History.{AskedOwn, Unopened, NamesSynced, OwnNameSynced, FoundEmpty}
-use Rattle.world_folder.specs.History.{Printed, Warned, FoundOutside, Removed}
+use Rattle.world_folder.specs.History.{Printed, Warned, FoundOutside, Removed, GuardRead, GuardPut}
 use Rattle.world_folder.specs.declared.noted.Noted.{Noted}
 use Rattle.world_folder.specs.declared.noted.Noted.TheVariants as noted
 
@@ -19,6 +19,8 @@ act_of (noted.AskedOwn state) = AskedOwn state
 act_of noted.NamesSynced = NamesSynced
 act_of noted.OwnNameSynced = OwnNameSynced
 act_of (noted.Removed file) = Removed file
+act_of (noted.GuardRead guard) = GuardRead guard
+act_of (noted.GuardPut guard) = GuardPut guard
 act_of noted.FoundEmpty = FoundEmpty
 act_of (noted.FoundOutside path) = FoundOutside (string_bytes path)
 act_of (noted.Printed text) = Printed (string_bytes text)

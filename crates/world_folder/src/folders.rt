@@ -7,12 +7,16 @@ ghost use Rattle.std.proofs.lemmas.Bool.{false≢true};
 ghost use Rattle.disk_model.specs.Disk.{Only};
 ghost use Rattle.world_folder.specs.History.{Act, Looked, Opened, Made, Locked, Read, Measured};
 ghost use Rattle.world_folder.specs.History.{Asked, AskedOwn, NamesSynced, OwnNameSynced};
+ghost use Rattle.world_folder.specs.Ending.{IsFault};
 ghost use Rattle.world_folder.specs.History.{FoundEmpty, FoundOutside, Removed};
+ghost use Rattle.world_folder.specs.History.{GuardRead, GuardPut};
 ghost use Rattle.world_folder.specs.History.{IsPrinted, IsWarned, IsUnopened};
 ghost use Rattle.world_folder.specs.declared.entry.Entry.{Entry as FileEntry};
 ghost use Rattle.world_folder.specs.declared.entry.Identity.{Identity as FileIdentity};
 
+use crate::ending::Ending;
 use crate::entry::Entry;
+use crate::guard::Guard;
 use crate::locks::LockState;
 use crate::world_file::WorldFile;
 use disk_model::Disk;
@@ -124,6 +128,18 @@ pub trait Folder {
         ensures synced { IsTrue honest → IsTrue Self.File.honest
             → IfOk result (λ disk. Only (Self.File.content disk) (Self.File.may_leave disk)) }
         ensures kept { IsTrue honest → history self.new ≡ history self.old };
+
+    /// Reads the guard of the world, if it has one.
+    fn read_guard(&mut self) -> Result<Option<Guard>, Ending>
+        ensures read { IsTrue honest
+            → IfOk result (λ guard. history self.new ≡ GuardRead guard ∷ history self.old) }
+        ensures fault { IfErr result IsFault };
+
+    /// Puts a guard into a folder that has none, whole and durably. If that fails, it has none.
+    fn put_guard(&mut self, guard: &Guard) -> io::Result<()>
+        ensures put { IsTrue honest
+            → OnOk result (history self.new ≡ GuardPut guard.now ∷ history self.old) }
+        ensures failed { IsTrue honest → OnErr result (history self.new ≡ history self.old) };
 
     /// Makes the names of the files durable.
     fn sync_names(&mut self) -> io::Result<()>

@@ -49,8 +49,7 @@ pub use folders::{Folder, Reading, WorldDisk};
 pub use found::{FoundReport, WorldReport};
 pub use guard::{GUARD, Guard, Older};
 pub use guard_file::{
-    checks_in, guard_age, guarded, new_guard, put_guard, read_guard, remove_guard, seconds_now,
-    touch_guard,
+    checks_in, guard_age, guarded, new_guard, put_guard, read_guard, seconds_now, touch_guard,
 };
 pub use laws::{copies_are_of_a_moment, sound_files_have_no_gap};
 pub use locks::{LockState, lock};

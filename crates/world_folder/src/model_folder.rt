@@ -8,8 +8,10 @@ ghost use Rattle.disk_model.specs.CrashOutcome.{IsCrashOutcome, content_stays};
 ghost use Rattle.disk_model.specs.FileState.{Calls};
 ghost use Rattle.world_folder.specs.ModelFolder.{act_of, acts_of};
 
+use crate::ending::Ending;
 use crate::entry::{Entry, FileKind, Identity};
 use crate::folders::{Folder, Reading, WorldDisk};
+use crate::guard::Guard;
 use crate::locks::LockState;
 use crate::noted::Noted;
 use crate::system_error::error_of;
@@ -86,18 +88,20 @@ pub struct ModelFolder {
     alloc: Global,
     bytes: FourFiles<Vec<u8>>,
     there: FourFiles<bool>,
+    guard: Option<Guard>,
     // The latest one first.
     noted: Vec<Noted>,
 }
 
 impl ModelFolder {
     /// A folder of which each file that is there has these bytes. A file that isn't there has them
-    /// once it was made.
+    /// once it was made. It has no guard.
     pub fn new(alloc: Global, bytes: FourFiles<Vec<u8>>, there: FourFiles<bool>) -> Self {
         ModelFolder {
             alloc,
             bytes,
             there,
+            guard: None,
             noted: Vec::new(alloc),
         }
     }
@@ -263,6 +267,18 @@ impl Folder for ModelFolder {
     fn take(&mut self, handle: ModelHandle) -> io::Result<ModelDisk> {
         let ModelHandle { entry, bytes } = handle;
         disk_of(self.alloc, bytes, entry.identity)
+    }
+
+    fn read_guard(&mut self) -> Result<Option<Guard>, Ending> {
+        let guard = self.guard;
+        self.note(Noted::GuardRead(guard))?;
+        Ok(guard)
+    }
+
+    fn put_guard(&mut self, guard: &Guard) -> io::Result<()> {
+        self.note(Noted::GuardPut(*guard))?;
+        self.guard = Some(*guard);
+        Ok(())
     }
 
     fn sync_names(&mut self) -> io::Result<()> {

@@ -1,5 +1,6 @@
 //! The calls and lines that a folder in memory notes.
 use crate::entry::Entry;
+use crate::guard::Guard;
 use crate::locks::LockState;
 use crate::world_file::WorldFile;
 
@@ -30,6 +31,10 @@ pub enum Noted {
     OwnNameSynced,
     /// The file under a name was removed.
     Removed(WorldFile),
+    /// The guard of the world was read, if it has one.
+    GuardRead(Option<Guard>),
+    /// A guard was put into the folder.
+    GuardPut(Guard),
     /// The folder has no file.
     FoundEmpty,
     /// The folder doesn't lie in the one at this path.

@@ -3,8 +3,11 @@ ghost use Rattle.std.specs.Prelude.{◌≡◌, false, []};
 ghost use Rattle.std.proofs.lemmas.Bool.{false≢true};
 ghost use Rattle.world_folder.specs.OwnFile.{no_entry, no_identity};
 
+use crate::ending::Ending;
 use crate::entry::Entry;
 use crate::folders::{Folder, Reading};
+use crate::guard::Guard;
+use crate::guard_file::{self, remove_guard};
 use crate::locks::{self, LockState};
 use crate::opening::ABOVE;
 use crate::own_file::NOT_REGULAR;
@@ -112,6 +115,18 @@ impl<R: Files<File = File> + Clock + Print + Eprint + AllocGlobal> Folder for Sy
 
     fn take(&mut self, handle: File) -> io::Result<FileDisk> {
         FileDisk::open(handle)
+    }
+
+    fn read_guard(&mut self) -> Result<Option<Guard>, Ending> {
+        guard_file::read_guard(self.rt, self.path)
+    }
+
+    fn put_guard(&mut self, guard: &Guard) -> io::Result<()> {
+        let put = guard_file::put_guard(self.rt, self.path, guard);
+        if put.is_err() {
+            remove_guard(self.rt, self.path);
+        }
+        put
     }
 
     fn sync_names(&mut self) -> io::Result<()> {

@@ -38,7 +38,7 @@ pub struct MadeFiles {
 }
 
 impl MadeFiles {
-    ghost use Rattle.std.specs.Prelude.{◌≡◌, true};
+    ghost use Rattle.std.specs.Prelude.{◌≡◌};
     ghost use Rattle.world_folder.specs.Completing.{with_made};
     ghost use Rattle.world_folder.specs.Left.{has_made, none_made, without};
 
@@ -50,18 +50,6 @@ impl MadeFiles {
             image_b: false,
             log_a: false,
             log_b: false,
-        }
-    }
-
-    /// All of a world.
-    pub fn each() -> Self
-        ensures { result ≡ record { image_a = true; image_b = true; log_a = true; log_b = true } }
-    {
-        MadeFiles {
-            image_a: true,
-            image_b: true,
-            log_a: true,
-            log_b: true,
         }
     }
 

@@ -1,5 +1,6 @@
 -- A copy of a world in another folder.
 use Rattle.std.specs.Prelude.{◌≡◌, ℕ, nat_lt, if◌then◌else◌, List, [], ◌∷◌}
+use Rattle.std.specs.Prelude.{Option, Some, None}
 use Rattle.disk_model.specs.Disk.{Only}
 use Rattle.disk_model.specs.declared.four_files.FourFiles.{FourFiles}
 use Rattle.file_format.specs.declared.gate.TheConstants.{CLOSED_GATE}
@@ -9,14 +10,17 @@ use Rattle.world_folder.specs.Ending.{ending_of}
 use Rattle.world_folder.specs.declared.ending.Ending.{Ending}
 use Rattle.world_folder.specs.declared.entry.Entry.{Entry}
 use Rattle.world_folder.specs.declared.found.WorldReport.{WorldReport}
+use Rattle.world_folder.specs.declared.guard.Guard.{Guard}
 use Rattle.world_folder.specs.declared.world_file.WorldFile.{WorldFile}
 use Rattle.world_folder.specs.declared.world_file.WorldFile.TheVariants.{ImageA, ImageB, LogA, LogB}
 use Rattle.world_folder.specs.Fault.{Files}
 use Rattle.world_folder.specs.declared.lost.Checks.{Checks}
+use Rattle.world_folder.specs.declared.lost.OnLoss.{OnLoss}
+use Rattle.world_folder.specs.declared.lost.OnLoss.TheVariants.{Warn}
 use Rattle.world_reports.specs.Looking.{IsWorldSeen}
 use Rattle.world_reports.specs.Reports.{NamesFailed, with_finding}
 use Rattle.world_reports.specs.declared.looking.SeenWorld.{SeenWorld}
-use Rattle.world_folder.specs.History.{Act, Made, FoundEmpty, FoundOutside}
+use Rattle.world_folder.specs.History.{Act, Made, FoundEmpty, FoundOutside, GuardRead, GuardPut}
 use Rattle.world_folder.specs.History.{Printed, Warned, synced}
 use Rattle.world_reports.specs.Texts.{backed_up_text, begun_text}
 use Rattle.world_reports.specs.Verified.{IsVerified}
@@ -24,6 +28,11 @@ use Rattle.world_reports.specs.Verified.{IsVerified}
 -- it is named on standard error how often a copy was begun, if it was begun anew
 abbrev pub with_tries : (tries : ℕ) → List Act → List Act
 with_tries tries acts = if nat_lt 1 tries then Warned (begun_text tries) ∷ acts else acts
+
+-- a guard was put into the folder, if there is one
+abbrev pub with_its_guard : Option Guard → List Act → List Act
+with_its_guard None acts = acts
+with_its_guard (Some guard) acts = GuardPut guard ∷ acts
 
 -- a closed gate in place of an older image; an empty file stays one
 abbrev pub shut_older : List ℕ → List ℕ
@@ -72,9 +81,9 @@ module _ {D : Type 0} (content : D → List ℕ) (leaves : D → List ℕ → Ty
 
   -- A copy of a world was made, and durable. Its files were read again, and hold the world that was
   -- read. Only then it was printed; a read that failed at first was named, and what is found of a
-  -- loss. The command ends by what was found.
-  pub record IsCopyMade (world : SeenWorld) (made : FourFiles D) (ending : Ending)
-      (before after : List Act) : Type 0 where
+  -- loss. At last it got this guard. The command ends by what was found.
+  pub record IsCopyMade (world : SeenWorld) (guard : Option Guard) (made : FourFiles D)
+      (ending : Ending) (before after : List Act) : Type 0 where
     pub copied : Files
     pub reported : WorldReport
     pub written : List Act
@@ -84,15 +93,27 @@ module _ {D : Type 0} (content : D → List ℕ) (leaves : D → List ℕ → Ty
     pub are_written : AreWritten world.found.world.slot copied made before written
     pub is_verified : IsVerified world.found.world reported written verified
     pub failed : NamesFailed world.failed verified named
-    pub printed : after ≡ Printed (backed_up_text reported.tick reported.from)
+    pub printed : List Act
+    pub printed_is : printed ≡ Printed (backed_up_text reported.tick reported.from)
         ∷ with_tries world.tries (with_finding world.found.finding named)
+    pub guard_is : after ≡ with_its_guard guard printed
     pub ends : ending ≡ ending_of world.found.finding
 
-  -- a copy of a world was made in an empty folder outside the world's own
+  -- a copy of a world was made in an empty folder outside the world's own, with the guard by which
+  -- the world was checked
   pub record IsBackedUp (checks : Checks) (path : List ℕ) (made : FourFiles D) (ending : Ending)
       (source_before source_after before after : List Act) : Type 0 where
     pub world : SeenWorld
     pub room : List Act
     pub is_seen : IsWorldSeen checks world source_before source_after
     pub is_room : room ≡ FoundEmpty ∷ FoundOutside path ∷ before
-    pub copy : IsCopyMade world made ending room after
+    pub copy : IsCopyMade world checks.guard made ending room after
+
+  -- the guard of a world was read, and then the world was copied with this guard
+  pub record IsBackedUpWithGuard (on_loss : OnLoss) (path : List ℕ) (made : FourFiles D)
+      (ending : Ending) (source_before source_after before after : List Act) : Type 0 where
+    pub guard : Option Guard
+    pub acts : List Act
+    pub guard_is : acts ≡ GuardRead guard ∷ source_before
+    pub copy : IsBackedUp (record { lost = on_loss; older = Warn; guard = guard }) path made ending
+        acts source_after before after

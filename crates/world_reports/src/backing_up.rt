@@ -3,7 +3,7 @@ ghost use Rattle.disk_model.specs.Disk.{Only};
 ghost use Rattle.world_folder.specs.Left.{Leaves};
 ghost use Rattle.world_reports.specs.Backup.{IsBackedUp, IsCopyMade, IsWritten, AreWritten};
 ghost use Rattle.world_reports.specs.Backup.{AreImagesWritten, IsWithoutOlder, shut_older};
-ghost use Rattle.world_reports.specs.Backup.{with_tries};
+ghost use Rattle.world_reports.specs.Backup.{with_its_guard, with_tries, IsBackedUpWithGuard};
 ghost use Rattle.world_folder.specs.Ending.{IsDone, IsFault, NamesFile};
 ghost use Rattle.world_folder.specs.History.{FoundEmpty, FoundOutside};
 ghost use Rattle.world_reports.specs.Texts.{begun_text};
@@ -22,10 +22,10 @@ use std::{fmt, io};
 use world_actions::Refusal;
 use world_folder::{
     Checks, Ending, Filled, Folder, GUARD, Guard, Inside, MadeFiles, OnLoss, Reading, SystemFolder,
-    WorldFile, answered, checks_in, opened, path_of, put_guard, remove_guard, sync_names,
+    WorldFile, answered, opened, path_of, sync_names,
 };
 
-/// Copies the world of a folder of the system into an empty one, as `copy_into` does.
+/// Copies the world of a folder of the system into an empty one, as `copy_with_guard` does.
 pub fn back_up<R: Files<File = File> + Clock + Print + Eprint + AllocGlobal>(
     rt: &R,
     folder: &str,
@@ -35,43 +35,45 @@ pub fn back_up<R: Files<File = File> + Clock + Print + Eprint + AllocGlobal>(
     ensures done { IfOk result IsDone }
     ensures fault { IfErr result IsFault }
 {
-    let checks = checks_in(rt, folder, on_loss)?;
     let mut from = SystemFolder::new(rt, folder);
     let mut into = SystemFolder::new(rt, to);
-    let (_, ending) = copy_into(rt.alloc(), &mut from, folder, &mut into, to, checks)?;
-    copy_guard(rt, &mut into, to, checks.guard)?;
+    let (_, ending) = copy_with_guard(rt.alloc(), &mut from, folder, &mut into, to, on_loss)?;
     Ok(ending)
 }
 
-// Gives a copy the guard of its world, as it was before the copy was begun. The copy has all ticks
-// up to the guard's, unless its world hasn't. If that fails, the files of the copy are removed, or
-// named.
-fn copy_guard<R: Files<File = File> + AllocGlobal, T: Folder>(
-    rt: &R,
+/// Copies the world of a folder into an empty one with its guard, as `copy_into` does. The guard is
+/// read before the copy is begun. So the copy has all ticks up to it, unless the world hasn't.
+pub fn copy_with_guard<F: Folder, T: Folder>(
+    alloc: Global,
+    from: &mut F,
+    path: &str,
     into: &mut T,
     to: &str,
-    guard: Option<Guard>,
-) -> Result<(), Ending>
+    on_loss: OnLoss,
+) -> Result<(FourFiles<T::File>, Ending), Ending>
+    ensures backed_up { IsTrue F.honest → IsTrue F.File.honest → IsTrue T.honest
+        → IsTrue T.File.honest → IfOk result (λ done.
+        IsBackedUpWithGuard T.File.content T.File.may_leave on_loss path.now done.0 done.1
+        (F.history from.old) (F.history from.new) (T.history into.old) (T.history into.new)) }
+    ensures done { IfOk result (λ done. IsDone done.1) }
     ensures fault { IfErr result IsFault }
 {
-    let Some(guard) = guard else {
-        return Ok(());
+    let guard = from.read_guard()?;
+    let checks = Checks {
+        lost: on_loss,
+        older: OnLoss::Warn,
+        guard,
     };
-    let put = put_guard(rt, to, &guard);
-    match opened(rt.alloc(), to, GUARD, put) {
-        Ok(()) => Ok(()),
-        Err(ending) => {
-            remove_guard(rt, to);
-            Err(taken_back(rt.alloc(), into, to, MadeFiles::each(), ending))
-        }
-    }
+    let copied = copy_into(alloc, from, path, into, to, checks)?;
+    Ok(copied)
 }
 
 /// Copies the world of a folder into an empty one, and prints which world the copy holds. A server
 /// may write the world meanwhile. The copy's image is written last, so a copy that was cut off
 /// holds no world; the older one is closed in it. The copy has to recover to the world that was
-/// read. If it fails, the files that it made are removed, or named. On standard error it names what
-/// was lost of the source. The copy's files are returned, and how the command ends.
+/// read, and gets its guard at last. If it fails, the files that it made are removed, or named. On
+/// standard error it names what was lost of the source. The copy's files are returned, and how the
+/// command ends.
 pub fn copy_into<F: Folder, T: Folder>(
     alloc: Global,
     from: &mut F,
@@ -90,22 +92,23 @@ pub fn copy_into<F: Folder, T: Folder>(
     look_for_room(alloc, path, into, to)?;
     let seen = look_for_world(alloc, from, path, Reading::Cached, checks)?;
     let mut made = MadeFiles::none();
-    match copy_seen(alloc, into, to, seen, &mut made) {
+    match copy_seen(alloc, into, to, seen, checks.guard, &mut made) {
         Ok(done) => Ok(done),
         Err(ending) => Err(taken_back(alloc, into, to, made, ending)),
     }
 }
 
-// Makes a copy of a world that was seen, and reports it.
+// Makes a copy of a world that was seen, with this guard, and reports it.
 fn copy_seen<T: Folder>(
     alloc: Global,
     into: &mut T,
     to: &str,
     seen: SeenWorld,
+    guard: Option<Guard>,
     made: &mut MadeFiles,
 ) -> Result<(FourFiles<T::File>, Ending), Ending>
     ensures copied { IsTrue T.honest → IsTrue T.File.honest → IfOk result (λ done.
-        IsCopyMade T.File.content T.File.may_leave seen done.0 done.1 (T.history into.old)
+        IsCopyMade T.File.content T.File.may_leave seen guard done.0 done.1 (T.history into.old)
         (T.history into.new)) }
     ensures done { IfOk result (λ done. IsDone done.1) }
     ensures fault { IfErr result IsFault }
@@ -124,7 +127,26 @@ fn copy_seen<T: Folder>(
     warn_of(into, found.finding)?;
     warn_of_tries(into, tries)?;
     into.print(BackedUp(verified))?;
+    copy_guard(alloc, into, to, guard)?;
     Ok((files, Ending::of_finding(found.finding)))
+}
+
+// Gives a copy the guard of its world, if it has one.
+fn copy_guard<T: Folder>(
+    alloc: Global,
+    into: &mut T,
+    to: &str,
+    guard: Option<Guard>,
+) -> Result<(), Ending>
+    ensures put { IsTrue T.honest
+        → OnOk result (T.history into.new ≡ with_its_guard guard (T.history into.old)) }
+    ensures fault { IfErr result IsFault }
+{
+    let Some(guard) = guard else {
+        return Ok(());
+    };
+    let put = into.put_guard(&guard);
+    opened(alloc, to, GUARD, put)
 }
 
 // The files with the older image closed. An empty file stays one.

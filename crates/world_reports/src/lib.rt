@@ -23,7 +23,7 @@ mod taking_back;
 mod two_tries;
 mod verified;
 
-pub use backing_up::{back_up, copy_into};
+pub use backing_up::{back_up, copy_into, copy_with_guard};
 pub use figures::{Figures, report_status, status};
 pub use inspecting::{inspect, report_files};
 pub use recovering::{recover, report_world};

@@ -18,8 +18,10 @@ returns-clause-copied g c = λ honest honest_files.
       are_written = c.in_ok-files.ensures.written honest honest_files;
       is_verified = c.in_ok-verified.ensures.verified honest honest_files;
       failed = c.in_ok-warn_of_failed.ensures honest;
-      printed = c.in_ok-print.ensures.printed honest
+      printed = g.T.Folder.history c.print.new.self;
+      printed_is = c.in_ok-print.ensures.printed honest
           ∙ (λ i. Printed (backed_up_text reported.tick reported.from) ∷ c.in_ok-warn_of_tries.ensures honest i)
           ∙ (λ i. Printed (backed_up_text reported.tick reported.from) ∷ with_tries seen.tries (c.in_ok-warn_of.ensures honest i));
+      guard_is = c.in_ok-copy_guard.ensures.put honest;
       ends = c.of_finding.ensures.ends;
     }
