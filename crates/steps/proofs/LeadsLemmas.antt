@@ -1,11 +1,13 @@
 -- The effects of a line, from the promises of a core's calls.
 use Rattle.std.proofs.Common.{refl, sym, ap, subst, ◌≡◌, ◌≢◌, ◌∙◌, ℕ, List, codes, Option, Some, None, Result, Ok, Err, IfOk, OnOk}
 use Rattle.world_actions.specs.declared.refusal.Refusal.{Refusal}
+use Rattle.std.specs.Prelude.{Vec}
+use Rattle.std.specs.declared.alloc.Global.{Global}
 use Rattle.disk_model.specs.declared.leaving.Leaving.{Leaving}
 use Rattle.image_files.specs.declared.answer.ImageAnswer.{ImageAnswer}
 use Rattle.action_log.specs.declared.answer.LogAnswer.{LogAnswer}
+use Rattle.disk_model.specs.declared.four_files.FourFiles.{FourFiles}
 use Rattle.world_core.specs.declared.moves.Fate.{Fate}
-use Rattle.world_core.specs.declared.moves.Remains.{Remains}
 use Rattle.world_core.specs.declared.moves.Move.{Move}
 use Rattle.world_core.specs.declared.moves.Move.TheVariants as move
 use Rattle.world_core.specs.declared.moves.Answer.{Answer}
@@ -83,7 +85,7 @@ pub starts_not : (given : Answer) (refusal : Refusal) (from to : Played) → giv
 starts_not given refusal from to is same = rw is same
 
 -- a crash, and the start after it
-pub crash_leads : (leaving : Leaving) (old middle new : State) (left : Remains) (given : Answer) → AreLeft leaving old left
+pub crash_leads : (leaving : Leaving) (old middle new : State) (left : FourFiles (Vec ℕ Global)) (given : Answer) → AreLeft leaving old left
     → MovesOn old (move.Crash left) given middle
     → ((past : Past) → IsCoreAt past middle → (next : Past) × IsCoreAt next new × Starts given (record { past = past; state = middle }) (record { past = next; state = new }))
     → Leads (Crash leaving) old (answer_text given) new

@@ -1,13 +1,14 @@
 -- The effect of a line of a script on an open core, and the text that it prints.
-use Rattle.std.specs.Prelude.{◌≡◌, ◌≢◌, ℕ, List, decimal, codes, map}
+use Rattle.std.specs.Prelude.{◌≡◌, ◌≢◌, ℕ, List, decimal, codes, map, Vec}
 use Rattle.std.specs.List.{join_with_byte}
 use Rattle.world_actions.specs.declared.refusal.Refusal.TheVariants.{NoMemory}
 use Rattle.line_grammar.specs.declared.command.Command as commands
 use Rattle.line_grammar.specs.declared.command.Command.TheVariants as command
+use Rattle.std.specs.declared.alloc.Global.{Global}
 use Rattle.disk_model.specs.declared.leaving.Leaving.{Leaving}
 use Rattle.image_files.specs.declared.answer.ImageAnswer.{ImageAnswer}
 use Rattle.action_log.specs.declared.answer.LogAnswer.{LogAnswer}
-use Rattle.world_core.specs.declared.moves.Remains.{Remains}
+use Rattle.disk_model.specs.declared.four_files.FourFiles.{FourFiles}
 use Rattle.world_core.specs.declared.moves.Fate.TheVariants.{Done}
 use Rattle.world_core.specs.declared.moves.Move.{Move}
 use Rattle.world_core.specs.declared.moves.Move.TheVariants as move
@@ -50,7 +51,7 @@ Starts given from to = RunsStart from.past from.state to.past to.state
 
 -- a crash that leaves these bytes of the four files, and the start after it
 pub record Crashes (leaving : Leaving) (from : Played) (given : Answer) (to : Played) : Type 0 where
-  pub left : Remains
+  pub left : FourFiles (Vec ℕ Global)
   pub are_left : AreLeft leaving from.state left
   pub middle : Played
   pub crash : Moves from (move.Crash left) given middle

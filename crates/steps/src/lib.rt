@@ -14,4 +14,4 @@ mod text;
 pub use line::{Line, Method, line_has_one_meaning, read_line};
 pub use script::{run_script, script_answers_each_line};
 // The core that a script runs, whose moves a program may make itself.
-pub use world_core::{Answer, Core, Fate, Move, Remains, run};
+pub use world_core::{Answer, Core, Fate, Move, run};

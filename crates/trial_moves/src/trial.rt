@@ -6,11 +6,12 @@ use crate::spoiling::spoil;
 use crate::tally::Tally;
 use crate::wrong::Wrong;
 use capture_core::Capture;
+use disk_model::{FourFiles, WorldFile};
 use plain_moves::{Asked, PlainAnswer};
 use std::alloc::Global;
 use trial_kit::{Random, left_by};
 use world_actions::Refusal;
-use world_core::{Core, FileName, Move, Remains};
+use world_core::{Core, Move};
 
 /// The wrong answer that ended a trial.
 #[derive(Clone, Copy, Debug)]
@@ -111,19 +112,19 @@ impl<C: Capture> Trial<C> {
     }
 
     // The bytes that the crash leaves of the four files.
-    fn remains(&self, asked: Asked, random: &mut Random) -> Result<Remains, Refusal> {
+    fn remains(&self, asked: Asked, random: &mut Random) -> Result<FourFiles<Vec<u8>>, Refusal> {
         let spoiled = match random.below(4) {
             _ if asked == Asked::Crash => None,
-            0 => Some(FileName::ImageA),
-            1 => Some(FileName::ImageB),
-            2 => Some(FileName::LogA),
-            _ => Some(FileName::LogB),
+            0 => Some(WorldFile::ImageA),
+            1 => Some(WorldFile::ImageB),
+            2 => Some(WorldFile::LogA),
+            _ => Some(WorldFile::LogB),
         };
-        let image_a = self.left_of(FileName::ImageA, spoiled, random)?;
-        let image_b = self.left_of(FileName::ImageB, spoiled, random)?;
-        let log_a = self.left_of(FileName::LogA, spoiled, random)?;
-        let log_b = self.left_of(FileName::LogB, spoiled, random)?;
-        Ok(Remains {
+        let image_a = self.left_of(WorldFile::ImageA, spoiled, random)?;
+        let image_b = self.left_of(WorldFile::ImageB, spoiled, random)?;
+        let log_a = self.left_of(WorldFile::LogA, spoiled, random)?;
+        let log_b = self.left_of(WorldFile::LogB, spoiled, random)?;
+        Ok(FourFiles {
             image_a,
             image_b,
             log_a,
@@ -134,8 +135,8 @@ impl<C: Capture> Trial<C> {
     // The bytes that the crash leaves of a file. They are spoiled if this is the file to spoil.
     fn left_of(
         &self,
-        name: FileName,
-        spoiled: Option<FileName>,
+        name: WorldFile,
+        spoiled: Option<WorldFile>,
         random: &mut Random,
     ) -> Result<Vec<u8>, Refusal> {
         let file = self.core.file(name);

@@ -6,6 +6,8 @@ use Rattle.world_actions.specs.declared.refusal.Refusal.{Refusal}
 use Rattle.world_actions.specs.declared.refusal.Refusal.TheVariants.{NoImage, NoMemory}
 use Rattle.world_actions.specs.declared.world.TheConstants.{CELLS}
 use Rattle.world_ticks.specs.declared.tick.TheConstants.{TICK_MAX}
+use Rattle.std.specs.Prelude.{Vec}
+use Rattle.std.specs.declared.alloc.Global.{Global}
 use Rattle.disk_model.specs.CrashOutcome.{IsCrashOutcome}
 use Rattle.image_files.specs.Image.{Closed, image_of}
 use Rattle.image_files.specs.Images.{NoneYet, Newest}
@@ -15,6 +17,7 @@ use Rattle.action_log.specs.Logs.{InStart}
 use Rattle.recovery.specs.Recovery.{Recovery, recovery_of, BothRead, Recovers}
 use Rattle.recovery.specs.Sound.{IsSound, IsSoundReading, IsFresh, IsFreshReading}
 use Rattle.recovery.specs.Restart.{Restarts, recovered_images}
+use Rattle.disk_model.specs.declared.four_files.FourFiles.{FourFiles}
 use Rattle.world_core.specs.History.{no_history}
 use Rattle.restart.specs.Start.{has_round, images_begun, is_shut}
 use Rattle.restart.specs.InStep.{InStep}
@@ -29,7 +32,6 @@ use Rattle.world_core.specs.State.{State, content_of, files_in}
 use Rattle.world_core.specs.Laws.{SafetyLaws}
 use Rattle.world_core.specs.Starting.{Begins, BeginsFresh, StandsOn}
 use Rattle.world_core.specs.Exact.{MayLeave, IsCrashAnswer}
-use Rattle.world_core.specs.declared.moves.Remains.{Remains}
 use Rattle.world_core.specs.declared.moves.Move.TheVariants as move
 use Rattle.world_core.specs.declared.moves.Answer.{Answer}
 use Rattle.world_core.specs.declared.moves.Answer.TheVariants as answer
@@ -199,7 +201,7 @@ fresh_core events safety cells new some few b order = begins_blank events safety
 -- ---- a core on the files that a crash left
 
 pub stands_keeps : EventLaws → SafetyLaws → (past : Past) (old new : State) (c : IsCoreAt past old) → IsInOrder content_of true new
-    → (left : Remains) → MayLeave (files_in old) left.image_a.items left.image_b.items left.log_a.items left.log_b.items
+    → (left : FourFiles (Vec ℕ Global)) → MayLeave (files_in old) left.image_a.items left.image_b.items left.log_a.items left.log_b.items
     → (given : Answer) → StandsOn old.images.cells left.image_a.items left.image_b.items left.log_a.items left.log_b.items given new → IsCoreAt (past_after past (move.Crash left) given) new
 stands_keeps events safety past old new c order left may (answer.Recovered tick from) s =
     let k = recovered_keeps events safety past old new c order left.image_a.items left.image_b.items left.log_a.items left.log_b.items may s.0 s.1 s.4 s.5 in
@@ -217,7 +219,7 @@ pub fresh_cells : (cells : ℕ) (new : State) → BeginsFresh cells new → new.
 fresh_cells cells new b = begun_cells None 0 (replicate cells 0) [] [] [] [] new b ∙ length-replicate cells 0
 
 pub stands_cells : EventLaws → SafetyLaws → (past : Past) (old new : State) (c : IsCoreAt past old) → IsInOrder content_of true new
-    → (left : Remains) → MayLeave (files_in old) left.image_a.items left.image_b.items left.log_a.items left.log_b.items
+    → (left : FourFiles (Vec ℕ Global)) → MayLeave (files_in old) left.image_a.items left.image_b.items left.log_a.items left.log_b.items
     → (given : Answer) → StandsOn old.images.cells left.image_a.items left.image_b.items left.log_a.items left.log_b.items given new → new.images.cells ≡ old.images.cells
 stands_cells events safety past old new c order left may (answer.Recovered tick from) s =
     begun_cells (Some (s.0.slot, s.0.from)) s.0.tick s.0.words left.image_a.items left.image_b.items left.log_a.items left.log_b.items new s.5

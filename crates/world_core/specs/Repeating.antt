@@ -1,7 +1,8 @@
 -- Moves of one keeper until it is idle or down, and the start, which consists of such
 -- moves of both.
 use Rattle.std.specs.Prelude.{◌≡◌, ◌⊎◌, ℕ, ◌+◌, ◌≤◌, true, false, None, List, [], ◌∷◌, ◌++◌, length}
-use Rattle.std.specs.Prelude.{replicate}
+use Rattle.std.specs.Prelude.{replicate, Vec}
+use Rattle.std.specs.declared.alloc.Global.{Global}
 use Rattle.disk_model.specs.declared.leaving.Leaving.{Leaving}
 use Rattle.disk_model.specs.Leaving.{left_by}
 use Rattle.disk_model.specs.FileState.{FileState}
@@ -15,9 +16,8 @@ use Rattle.world_core.specs.declared.moves.Fate.{Fate}
 use Rattle.world_core.specs.declared.moves.Fate.TheVariants.{Done}
 use Rattle.world_core.specs.declared.moves.Move.{Move}
 use Rattle.world_core.specs.declared.moves.Move.TheVariants as move
-use Rattle.world_core.specs.declared.moves.Remains.{Remains}
-use Rattle.world_core.specs.declared.moves.FileName.{FileName}
-use Rattle.world_core.specs.declared.moves.FileName.TheVariants.{ImageA, ImageB, LogA, LogB}
+use Rattle.disk_model.specs.FourFiles.{EachFile}
+use Rattle.disk_model.specs.declared.four_files.FourFiles.{FourFiles}
 use Rattle.world_core.specs.declared.moves.Answer.{Answer}
 use Rattle.world_core.specs.declared.moves.Answer.TheVariants as answer
 use Rattle.world_core.specs.Standing.{Standing, is_starting, is_log_waiting}
@@ -127,16 +127,7 @@ StartSettled standing =
 
 -- ---- files
 
--- the file of this name
-abbrev pub file_in : FileName → State → FileState
-file_in ImageA state = state.files.image_a.inner
-file_in ImageB state = state.files.image_b.inner
-file_in LogA state = state.files.log_a.inner
-file_in LogB state = state.files.log_b.inner
-
 -- the bytes that such a crash leaves of each file
-pub record AreLeft (leaving : Leaving) (state : State) (left : Remains) : Type 0 where
-  pub image_a : left.image_a.items ≡ left_by leaving state.files.image_a.inner
-  pub image_b : left.image_b.items ≡ left_by leaving state.files.image_b.inner
-  pub log_a : left.log_a.items ≡ left_by leaving state.files.log_a.inner
-  pub log_b : left.log_b.items ≡ left_by leaving state.files.log_b.inner
+abbrev pub AreLeft : Leaving → State → FourFiles (Vec ℕ Global) → Type 0
+AreLeft leaving state left =
+    EachFile left state.files (λ bytes file. bytes.items ≡ left_by leaving file.inner)

@@ -13,6 +13,6 @@ mod running;
 mod world_core;
 
 pub use laws::{cores_are_safe, cores_stay_written};
-pub use moves::{Answer, Fate, FileName, Move, Remains};
+pub use moves::{Answer, Fate, Move};
 pub use running::run;
 pub use world_core::Core;

@@ -1,6 +1,6 @@
 use action_log::LogAnswer;
+use disk_model::FourFiles;
 use image_files::ImageAnswer;
-use std::alloc::Global;
 use world_actions::{Action, Refusal};
 
 /// The fate of the device call of a move, if it makes one.
@@ -46,48 +46,7 @@ pub enum Move {
     /// has their ticks.
     Cover(u64),
     /// A crash that leaves these bytes of the four files, and the restart.
-    Crash(Remains),
-}
-
-/// One of the four files.
-#[derive(Clone, Copy, Debug, PartialEq, Eq)]
-pub enum FileName {
-    /// image.a
-    ImageA,
-    /// image.b
-    ImageB,
-    /// log.a
-    LogA,
-    /// log.b
-    LogB,
-}
-
-/// The bytes that a crash leaves of the four files.
-#[derive(Drop)]
-pub struct Remains {
-    pub image_a: Vec<u8>,
-    pub image_b: Vec<u8>,
-    pub log_a: Vec<u8>,
-    pub log_b: Vec<u8>,
-}
-
-impl Remains {
-    ghost use Rattle.std.specs.Prelude.{◌≡◌, []};
-
-    /// Four empty files.
-    pub fn none(alloc: Global) -> Self
-        ensures image_a { result.image_a.items ≡ [] }
-        ensures image_b { result.image_b.items ≡ [] }
-        ensures log_a { result.log_a.items ≡ [] }
-        ensures log_b { result.log_b.items ≡ [] }
-    {
-        Remains {
-            image_a: Vec::new(alloc),
-            image_b: Vec::new(alloc),
-            log_a: Vec::new(alloc),
-            log_b: Vec::new(alloc),
-        }
-    }
+    Crash(FourFiles<Vec<u8>>),
 }
 
 /// The answer to one move.

@@ -9,9 +9,10 @@ ghost use Rattle.world_core.specs.Exact.{IsExact, Progresses};
 ghost use Rattle.world_core.specs.Facts.{IsCoreAt};
 
 use crate::laws::{File, safety_laws};
-use crate::moves::{Answer, Fate, Move, Remains};
+use crate::moves::{Answer, Fate, Move};
 use action_log::LogAnswer;
 use capture_core::Capture;
+use disk_model::FourFiles;
 use engine::{Engine, event_laws, keeper_laws};
 use image_files::ImageAnswer;
 use restart::zeros;
@@ -54,7 +55,7 @@ impl<C: Capture> Core<C> {
         event_laws();
         safety_laws();
         let words = zeros(alloc, cells)?;
-        let engine = Core::begin(alloc, None, 0, &words, Remains::none(alloc))?;
+        let engine = Core::begin(alloc, None, 0, &words, FourFiles::empty(alloc))?;
         engine.in_order();
         Ok(Core { alloc, engine })
     }
@@ -243,7 +244,7 @@ impl<C: Capture> Core<C> {
     }
 
     // The next start begins from what recovery finds in the bytes that the crash left.
-    fn crash(&mut self, left: Remains) -> Answer
+    fn crash(&mut self, left: FourFiles<Vec<u8>>) -> Answer
         ensures keeps { (past : Past) → IsCoreAt past self.old
             → IsCoreAt (past_after past (Move.Crash left) result) self.new }
         ensures exact { (past : Past) → IsCoreAt past self.old

@@ -1,11 +1,12 @@
 use capture_core::{Capture, PlainCopy};
+use disk_model::FourFiles;
 use ping_pong::PingPong;
 use plain_moves::{Asked, PlainAnswer};
 use std::alloc::Global;
 use std::process::Abort;
 use std::test::Fail;
 use world_actions::{Action, Refusal};
-use world_core::{Answer, Core, Fate, Move, Remains, run};
+use world_core::{Answer, Core, Fate, Move, run};
 use zigzag::Zigzag;
 
 mod rows;
@@ -43,14 +44,19 @@ fn answers<C: Capture>(rt: &impl Abort, core: &mut Core<C>, lines: &[Line]) {
     }
 }
 
-fn crash<C: Capture>(rt: &impl Abort, core: &mut Core<C>, left: Remains, reported: PlainAnswer) {
+fn crash<C: Capture>(
+    rt: &impl Abort,
+    core: &mut Core<C>,
+    left: FourFiles<Vec<u8>>,
+    reported: PlainAnswer,
+) {
     assert_eq!(rt; PlainAnswer::of(core.step(Move::Crash(left))), reported);
 }
 
 // No byte of three files, and so many of image.a.
-fn ones(alloc: Global, count: usize) -> Result<Remains, Refusal> {
+fn ones(alloc: Global, count: usize) -> Result<FourFiles<Vec<u8>>, Refusal> {
     let image_a = vec![in alloc; 1; count]?;
-    Ok(Remains {
+    Ok(FourFiles {
         image_a,
         image_b: Vec::new(alloc),
         log_a: Vec::new(alloc),

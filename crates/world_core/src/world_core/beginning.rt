@@ -9,7 +9,7 @@ ghost use Rattle.recovery.specs.Recovery.{Recovers};
 ghost use Rattle.world_core.specs.Starting.{HasOnly, AreFiles, Begins, StandsOn};
 
 use crate::laws::{File, safety_laws};
-use crate::moves::{Answer, Remains};
+use crate::moves::Answer;
 use crate::world_core::Core;
 use capture_core::Capture;
 use disk_model::{FourFiles, Fused, ModelFile};
@@ -28,7 +28,7 @@ impl<C: Capture> Core<C> {
         newest: Option<(Slot, u64)>,
         tick: u64,
         words: &[u64],
-        left: Remains,
+        left: FourFiles<Vec<u8>>,
     ) -> Result<Engine<C, File>, Refusal>
         requires some { 1 ≤ length words.now }
         requires few { length words.now ≤ CELLS }
@@ -55,7 +55,7 @@ impl<C: Capture> Core<C> {
     }
 
     // True if a crash may leave these bytes of the four files.
-    pub(super) fn allows(&self, left: &Remains) -> bool
+    pub(super) fn allows(&self, left: &FourFiles<Vec<u8>>) -> bool
         ensures { IsTrue result
             ↔ (IsCrashOutcome self.now.files.image_a.inner left.now.image_a.items
             × IsCrashOutcome self.now.files.image_b.inner left.now.image_b.items
@@ -74,7 +74,7 @@ impl<C: Capture> Core<C> {
     pub(super) fn stand_on(
         alloc: Global,
         cells: u32,
-        left: Remains,
+        left: FourFiles<Vec<u8>>,
     ) -> Result<(Engine<C, File>, Answer), Refusal>
         requires { (1 ≤ cells) × (cells ≤ CELLS) }
         ensures stands { IfOk result (λ made. StandsOn cells
@@ -113,12 +113,12 @@ impl<C: Capture> Core<C> {
 }
 
 // Files of which these bytes are durable.
-fn files_of(alloc: Global, left: Remains) -> Result<FourFiles<File>, Refusal>
+fn files_of(alloc: Global, left: FourFiles<Vec<u8>>) -> Result<FourFiles<File>, Refusal>
     ensures files { IfOk result (AreFiles left.image_a.items left.image_b.items
         left.log_a.items left.log_b.items) }
     ensures memory { IfErr result (λ refusal. refusal ≡ Refusal.NoMemory) }
 {
-    let Remains {
+    let FourFiles {
         image_a,
         image_b,
         log_a,

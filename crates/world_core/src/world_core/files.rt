@@ -1,10 +1,10 @@
 ghost use Rattle.std.specs.Prelude.{◌≡◌, IfOk, IfErr};
-ghost use Rattle.world_core.specs.Repeating.{file_in, AreLeft};
+ghost use Rattle.world_core.specs.Repeating.{AreLeft};
+ghost use Rattle.disk_model.specs.FourFiles.{value_of};
 
-use crate::moves::{FileName, Remains};
 use crate::world_core::Core;
 use capture_core::Capture;
-use disk_model::{Leaving, ModelFile};
+use disk_model::{FourFiles, Leaving, ModelFile, WorldFile};
 use world_actions::Refusal;
 
 impl<C: Capture> Core<C> {
@@ -16,27 +16,21 @@ impl<C: Capture> Core<C> {
         self.engine.cells() as u32
     }
 
-    /// The file of this name.
-    pub fn file(&self, name: FileName) -> &ModelFile
-        ensures { result.now ≡ file_in name self.now }
+    /// One of the four files.
+    pub fn file(&self, file: WorldFile) -> &ModelFile
+        ensures { result.now ≡ (value_of file self.now.files).inner }
     {
-        let files = self.engine.files();
-        match name {
-            FileName::ImageA => files.image_a.inner(),
-            FileName::ImageB => files.image_b.inner(),
-            FileName::LogA => files.log_a.inner(),
-            FileName::LogB => files.log_b.inner(),
-        }
+        self.engine.files().get(file).inner()
     }
 
     /// Returns the bytes that such a crash leaves of the four files. Its only refusal
     /// is `NoMemory`.
-    pub fn remains(&self, leaving: Leaving) -> Result<Remains, Refusal>
+    pub fn remains(&self, leaving: Leaving) -> Result<FourFiles<Vec<u8>>, Refusal>
         ensures left { IfOk result (AreLeft leaving self.now) }
         ensures memory { IfErr result (λ refusal. refusal ≡ Refusal.NoMemory) }
     {
         let files = self.engine.files();
-        Ok(Remains {
+        Ok(FourFiles {
             image_a: files.image_a.inner().left_by(self.alloc, leaving)?,
             image_b: files.image_b.inner().left_by(self.alloc, leaving)?,
             log_a: files.log_a.inner().left_by(self.alloc, leaving)?,

@@ -1,6 +1,6 @@
 use super::{IMAGE, IMAGE_FAILS, LOG, LOG_FAILS, Line, SET, ones, reported_by};
 use capture_core::{Capture, PlainCopy};
-use disk_model::Leaving;
+use disk_model::{FourFiles, Leaving};
 use ping_pong::PingPong;
 use plain_moves::{Asked, PlainAnswer};
 use shared_capture::{Joined, Pong, Zig};
@@ -8,7 +8,7 @@ use std::alloc::Global;
 use std::process::Abort;
 use std::test::Fail;
 use world_actions::{Action, LIMIT, Refusal};
-use world_core::{Core, Move, Remains, run};
+use world_core::{Core, Move, run};
 use zigzag::Zigzag;
 
 const END: Asked = Asked::End;
@@ -97,7 +97,7 @@ fn add_part<C: Capture>(row: &mut Row, core: &mut Core<C>, part: Part<'_>) -> Re
     }
 }
 
-fn crash<C: Capture>(core: &mut Core<C>, left: Remains) {
+fn crash<C: Capture>(core: &mut Core<C>, left: FourFiles<Vec<u8>>) {
     core.step(Move::Crash(left));
 }
 

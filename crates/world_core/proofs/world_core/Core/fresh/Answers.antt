@@ -8,7 +8,7 @@ use Rattle.world_core.proofs.world_core.Core.fresh.Goals.{After-in_order}
 begun : (g : _) (c : After-in_order g) → IsCoreAt fresh_past c.in_ok-engine.engine
 begun g c = fresh_core c.event_laws.ensures c.safety_laws.ensures c.args.cells c.in_ok-engine.engine c.requires.0 c.requires.1
     (begins_empty _ _ _ _ _ _ _ c.in_ok-engine.ensures.begins (c.deref.ensures.value ∙ c.in_ok-words.ensures.zeros)
-    c.none.ensures.image_a c.none.ensures.image_b c.none.ensures.log_a c.none.ensures.log_b) c.in_order.ensures
+    c.empty.ensures.image_a c.empty.ensures.image_b c.empty.ensures.log_a c.empty.ensures.log_b) c.in_order.ensures
 
 pub invariant_of-result : goal.invariant_of-result
 invariant_of-result g c = (fresh_past, begun g c)
