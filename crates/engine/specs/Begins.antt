@@ -1,5 +1,6 @@
 -- A world at the beginning of a start.
 use Rattle.std.specs.Prelude.{◌≡◌, ℕ, Bool, List, [], length, Option}
+use Rattle.disk_model.specs.FourFiles.{EachFile}
 use Rattle.disk_model.specs.declared.four_files.FourFiles.{FourFiles}
 use Rattle.file_format.specs.declared.slot.Slot.{Slot}
 use Rattle.image_files.specs.Files.{ReportsShut}
@@ -9,12 +10,8 @@ use Rattle.restart.specs.Start.{has_round, started_keeper, IsBuilt}
 use Rattle.engine.specs.World.{World}
 
 -- the flags say correctly which files are shut
-pub record AreGates {D : Type 0} (file : D → List ℕ) (files : FourFiles D)
-    (shut : FourFiles Bool) : Type 0 where
-  pub image_a : ReportsShut shut.image_a (file files.image_a)
-  pub image_b : ReportsShut shut.image_b (file files.image_b)
-  pub log_a : ReportsShut shut.log_a (file files.log_a)
-  pub log_b : ReportsShut shut.log_b (file files.log_b)
+abbrev pub AreGates : {D : Type 0} → (file : D → List ℕ) → FourFiles D → FourFiles Bool → Type 0
+AreGates file files shut = EachFile shut files (λ is_shut disk. ReportsShut is_shut (file disk))
 
 -- a start at this tick, with these words, from this newest image, on files that are shut by
 -- these flags

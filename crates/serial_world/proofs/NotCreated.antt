@@ -10,9 +10,8 @@ use Rattle.action_log.specs.Segment.{Segment}
 use Rattle.action_log.specs.Spellings.{ReadsOnce}
 use Rattle.recovery.specs.Recovery.{Recovery, Recovers, Newest, recovery_with, recovery_from, recovery_of, words_after, tail, newest, is_bad_image, is_bad_segment}
 use Rattle.engine.specs.Follows.{AreSound}
-use Rattle.world_start.specs.Opening.{IsRefused}
+use Rattle.world_start.specs.Opening.{IsRefused, RecoversAll}
 use Rattle.world_start.specs.Fresh.{AreMade, AreNotMade}
-use Rattle.world_start.proofs.Recovered.{recovers_on}
 use Rattle.serial_world.specs.Opened.{IsNotOpened, IsRefusedNew, IsNotCreated}
 
 pub if_same : {T E : Type 0} (r : Result T E) (error : E) (P : E → Type 0) → IsErrAnd r (λ e. e ≡ error) → P error → IfErr r P
@@ -64,21 +63,17 @@ module _ {D : Type 0} (file : D → List ℕ) (leaves : D → List ℕ → Type 
   new_refused once stays files made cells m refusal (inr (inl device)) = inr (inr (inl device))
   new_refused once stays files made cells m refusal (inr (inr r)) =
       inr (inr (inr (
-        r.0,
-        r.1,
-        r.2,
-        r.3,
-        r.4,
+        r.bytes,
+        r.recovers,
         λ honest synced.
-            (let read = r.5 honest in
             none_refused once (stays honest) made (replicate cells 0) [] 0 ((m honest).sound synced) refusal
-            (recovers_on (Err refusal) read.image_a_is read.image_b_is read.log_a_is read.log_b_is r.4)),
+            (subst (λ (bytes : FourFiles (List ℕ)). RecoversAll bytes (Err refusal)) (r.read honest) r.recovers),
       )))
 
   not_by_open : (files : FourFiles D) (refusal : Refusal) → IsRefused file honest files refusal → refusal ≡ NotEmpty → ⊥
   not_by_open files refusal (inl memory) is = cc
   not_by_open files refusal (inr (inl device)) is = cc
-  not_by_open files refusal (inr (inr r)) is = other_reason r.0 r.1 r.2 r.3 (subst (λ (x : Refusal). Recovers r.0 r.1 r.2 r.3 (Err x)) is r.4)
+  not_by_open files refusal (inr (inr r)) is = other_reason _ _ _ _ (subst (λ (x : Refusal). RecoversAll r.bytes (Err x)) is r.recovers)
 
   -- what is left of the new files, if they are not opened
   pub new_left : (files made : FourFiles D) (cells : ℕ) → AreMade file leaves files cells made

@@ -1,5 +1,5 @@
 -- Batches and checkpoints keep a world at rest, and in step with its ticks.
-use Rattle.std.proofs.Common.{◌≡◌, ◌⊎◌, ℕ, ◌+◌, Bool, inl, inr, List, [], ◌∷◌, ◌++◌, length, true, false, Option, Some, None, is_some, Ok, if◌then◌else◌, refl, sym, ap, subst, ◌∙◌, arith}
+use Rattle.std.proofs.Common.{◌≡◌, ◌⊎◌, ℕ, ◌+◌, Bool, inl, List, [], ◌∷◌, ◌++◌, true, false, Option, Some, None, is_some, if◌then◌else◌, sym, ap, subst, ◌∙◌}
 use Rattle.std.specs.Prelude.{IsTrue, IfNone, IfSome}
 use Rattle.world_actions.specs.declared.action.Action.{Action}
 use Rattle.world_actions.specs.declared.refusal.Refusal.{Refusal}

@@ -5,9 +5,9 @@ use Rattle.world_actions.specs.declared.refusal.Refusal.{Refusal}
 use Rattle.world_actions.specs.declared.refusal.Refusal.TheVariants.{Device, NoMemory, NotEmpty}
 use Rattle.disk_model.specs.FourFiles.{EachFile, KeepsFile}
 use Rattle.disk_model.specs.declared.four_files.FourFiles.{FourFiles}
-use Rattle.recovery.specs.Recovery.{Recovery, Recovers}
+use Rattle.recovery.specs.Recovery.{Recovery}
 use Rattle.engine.specs.Follows.{AreSound}
-use Rattle.world_start.specs.Opening.{AreSynced, RecoversFiles}
+use Rattle.world_start.specs.Opening.{AreSynced, RecoversAll, RecoversFiles}
 use Rattle.world_start.specs.Fresh.{FilesAreClosed, AreFreshOrSound, AreMade}
 use Rattle.serial_world.specs.declared.state.SerialState.{SerialState}
 use Rattle.serial_world.specs.Runs.{words_of, Serves}
@@ -46,7 +46,7 @@ module _ {D : Type 0} (file : D → List ℕ) (leaves : D → List ℕ → Type 
   abbrev pub IsRefusedNew : (honest : Bool) → FourFiles D → Refusal → Type 0
   IsRefusedNew honest files refusal =
       (refusal ≡ NotEmpty) ⊎ ((refusal ≡ NoMemory) ⊎ ((refusal ≡ Device)
-      ⊎ ((image_a image_b log_a log_b : List ℕ) × Recovers image_a image_b log_a log_b (Err refusal)
+      ⊎ ((bytes : FourFiles (List ℕ)) × RecoversAll bytes (Err refusal)
       × (IsTrue honest → AreSynced file leaves files → ⊥))))
 
   -- the files were only read, or they are those of the new world and were only read since

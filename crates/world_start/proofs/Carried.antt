@@ -1,8 +1,7 @@
 -- What is known of the bytes that were read of the files holds for all bytes of the files.
-use Rattle.std.proofs.Common.{◌≡◌, ℕ, ◌≤◌, Bool, true, false, ◌&&◌, not, nat_eq, nat_lt, IsTrue, lt-ltb, List, [], ◌∷◌, length, take, Option, Result, refl, sym, ap, subst, ◌∙◌, arith}
-use Rattle.std.specs.Prelude.{if◌then◌else◌}
+use Rattle.std.proofs.Common.{◌≡◌, ℕ, Bool, true, false, ◌&&◌, not, nat_eq, nat_lt, IsTrue, lt-ltb, List, [], ◌∷◌, length, take, Result, refl, sym, ap, subst, ◌∙◌, arith}
 use Rattle.world_actions.specs.declared.refusal.Refusal.{Refusal}
-use Rattle.disk_model.specs.FourFiles.{EachFile, KeepsFile}
+use Rattle.disk_model.specs.FourFiles.{EachFile, KeepsFile, mapped}
 use Rattle.disk_model.specs.declared.four_files.FourFiles.{FourFiles}
 use Rattle.file_format.specs.declared.gate.TheConstants.{OPEN_GATE}
 use Rattle.image_files.specs.Image.{Image, image_of}
@@ -13,7 +12,7 @@ use Rattle.image_files.specs.Files.{ReportsShut}
 use Rattle.restart.specs.Start.{is_shut}
 use Rattle.engine.specs.Begins.{AreGates}
 use Rattle.file_readers.specs.Reading.{AreFilesRead}
-use Rattle.world_start.specs.Opening.{AreRead}
+use Rattle.world_start.specs.Opening.{RecoversBytes}
 use Rattle.world_start.specs.Fresh.{AreClosed}
 
 -- ---- the gates
@@ -83,32 +82,12 @@ module _ {D : Type 0} (file : D → List ℕ) (files : FourFiles D) (ia ib la lb
       gate before after bytes flag is front same =
           subst (λ s. ReportsShut s after) (sym (is ∙ shut_same before bytes front ∙ ap is_shut (sym same))) (reported after)
 
--- ---- the bytes of the files, or those that were read if the files don't keep to the disk model
-
 -- bytes with this recovery, which are those of the files if these keep to the disk model
-pub record Chosen {D : Type 0} (file : D → List ℕ) (honest : Bool) (files : FourFiles D) (x : Result Recovery Refusal) : Type 0 where
-  pub image_a : List ℕ
-  pub image_b : List ℕ
-  pub log_a : List ℕ
-  pub log_b : List ℕ
-  pub recovers : Recovers image_a image_b log_a log_b x
-  pub read : IsTrue honest → AreRead file files image_a image_b log_a log_b
-
 pub chosen : {D : Type 0} (file : D → List ℕ) (honest : Bool) (files : FourFiles D) (x : Result Recovery Refusal)
-    (ia ib la lb : List ℕ) → Recovers ia ib la lb x → (IsTrue honest → AreFilesRead file files ia ib la lb) → Chosen file honest files x
-chosen file true files x ia ib la lb e read = record {
-  image_a = file files.image_a;
-  image_b = file files.image_b;
-  log_a = file files.log_a;
-  log_b = file files.log_b;
-  recovers = read_recovers file files ia ib la lb (read refl) x e;
-  read = λ honest. record { image_a_is = refl; image_b_is = refl; log_a_is = refl; log_b_is = refl };
-}
+    (ia ib la lb : List ℕ) → Recovers ia ib la lb x → (IsTrue honest → AreFilesRead file files ia ib la lb) → RecoversBytes file honest files x
+chosen file true files x ia ib la lb e read = record { bytes = mapped file files; recovers = read_recovers file files ia ib la lb (read refl) x e; read = λ honest. refl }
 chosen file false files x ia ib la lb e read = record {
-  image_a = ia;
-  image_b = ib;
-  log_a = la;
-  log_b = lb;
+  bytes = record { image_a = ia; image_b = ib; log_a = la; log_b = lb };
   recovers = e;
   read = λ honest. absurd (let h = honest in cc);
 }

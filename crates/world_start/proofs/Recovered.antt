@@ -5,12 +5,10 @@ use Rattle.std.proofs.lemmas.List.{length-take-le}
 use Rattle.world_actions.specs.declared.action.Action.{Action}
 use Rattle.world_actions.specs.declared.refusal.Refusal.{Refusal}
 use Rattle.world_actions.specs.declared.refusal.Refusal.TheVariants.{Device, BadImage, BadLog}
-use Rattle.world_actions.specs.declared.world.TheConstants.{CELLS}
 use Rattle.world_actions.specs.World.{IsWorld}
 use Rattle.world_ticks.specs.declared.tick.TheConstants.{TICK_MAX}
 use Rattle.disk_model.specs.FourFiles.{EachFile, KeepsFile}
 use Rattle.disk_model.specs.declared.four_files.FourFiles.{FourFiles}
-use Rattle.file_format.specs.declared.slot.Slot.{Slot}
 use Rattle.image_files.specs.Image.{image_of}
 use Rattle.image_files.specs.Images.{Newest}
 use Rattle.image_files.specs.Progress.{Progress as ImageProgress}
@@ -27,7 +25,7 @@ use Rattle.engine.specs.Follows.{Follows, AreSound}
 use Rattle.engine.specs.Begins.{AreGates, Begins}
 use Rattle.engine.specs.Laws.{EventLaws, KeeperLaws}
 use Rattle.world_start.specs.Steps.{IsFound}
-use Rattle.world_start.specs.Opening.{AreSynced, AreOfWorld, IsRead, RecoversFiles}
+use Rattle.world_start.specs.Opening.{AreSynced, AreOfWorld, IsRead, RecoversAll, RecoversFiles}
 use Rattle.image_files.proofs.SlotImages.{by_slot, by_other}
 use Rattle.world_start.proofs.NewWorld.{new_reading}
 use Rattle.engine.proofs.Beginning.{begins_follow, built_live, started_newest}
@@ -80,10 +78,7 @@ not_a_device ia ib la lb e =
 -- a recovery of the bytes that were read is one of the files
 pub found_recovers : {D : Type 0} (file : D → List ℕ) (honest : Bool) (files : FourFiles D) (found : Recovered) → IsFound file honest files found → IsTrue honest
     → RecoversFiles file files (recovery_of_answer found)
-found_recovers file honest files found f sure =
-    let b = f.bytes in
-    let read = b.read sure in
-    recovers_on (Ok (recovery_of_answer found)) read.image_a_is read.image_b_is read.log_a_is read.log_b_is (subst (λ r. Recovers b.image_a b.image_b b.log_a b.log_b (Ok r)) f.is_found b.recovers)
+found_recovers file honest files found f sure = subst (λ bytes. RecoversAll bytes (Ok (recovery_of_answer found))) (f.read sure) f.recovers
 
 module _ {D : Type 0} (file : D → List ℕ) (leaves : D → List ℕ → Type 0) where
   -- files of a new world from which one is recovered are sound

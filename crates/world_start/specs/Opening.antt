@@ -1,11 +1,11 @@
 -- The result of recovering the files of a world.
 use Rattle.std.specs.Prelude.{◌≡◌, ◌⊎◌, ◌≤◌, ℕ, Bool, IsTrue, List, [], take}
-use Rattle.std.specs.Prelude.{Ok, Err}
+use Rattle.std.specs.Prelude.{Result, Ok, Err}
 use Rattle.world_actions.specs.declared.action.Action.{Action}
 use Rattle.world_actions.specs.declared.refusal.Refusal.{Refusal}
 use Rattle.world_actions.specs.declared.refusal.Refusal.TheVariants.{Device, NoMemory}
 use Rattle.disk_model.specs.Disk.{Only}
-use Rattle.disk_model.specs.FourFiles.{fault_counts}
+use Rattle.disk_model.specs.FourFiles.{EachFile, fault_counts, mapped}
 use Rattle.disk_model.specs.declared.four_files.FourFiles.{FourFiles}
 use Rattle.recovery.specs.Recovery.{Recovery, Recovers}
 use Rattle.recovery.specs.Sound.{IsFresh}
@@ -17,11 +17,8 @@ use Rattle.engine.specs.Runs.{HasNewest, SomeGrew}
 
 module _ {D : Type 0} (file : D → List ℕ) (leaves : D → List ℕ → Type 0) where
   -- nothing of the files is unsynced
-  pub record AreSynced (files : FourFiles D) : Type 0 where
-    pub image_a : Only (file files.image_a) (leaves files.image_a)
-    pub image_b : Only (file files.image_b) (leaves files.image_b)
-    pub log_a : Only (file files.log_a) (leaves files.log_a)
-    pub log_b : Only (file files.log_b) (leaves files.log_b)
+  abbrev pub AreSynced : FourFiles D → Type 0
+  AreSynced files = EachFile files files (λ disk _. Only (file disk) (leaves disk))
 
   -- Nothing of the files is unsynced. They are sound for these ticks and this acknowledged count,
   -- or those of a new world, of which no tick has ended.
@@ -32,28 +29,29 @@ module _ {D : Type 0} (file : D → List ℕ) (leaves : D → List ℕ → Type 
         ⊎ (IsFresh (leaves files.image_a) (leaves files.image_b) (leaves files.log_a)
         (leaves files.log_b) first × (ticks ≡ []) × (acknowledged ≡ 0))
 
+-- recovery of four files with these bytes has this result
+abbrev pub RecoversAll : FourFiles (List ℕ) → Result Recovery Refusal → Type 0
+RecoversAll bytes result =
+    Recovers bytes.image_a bytes.image_b bytes.log_a bytes.log_b result
+
 module _ {D : Type 0} (file : D → List ℕ) where
   -- recovery of the bytes that reads of the files give has this result
   abbrev pub RecoversFiles : FourFiles D → Recovery → Type 0
-  RecoversFiles files r =
-      Recovers (file files.image_a) (file files.image_b) (file files.log_a)
-      (file files.log_b) (Ok r)
+  RecoversFiles files r = RecoversAll (mapped file files) (Ok r)
 
-  -- these bytes are what reads of the files give
-  pub record AreRead (files : FourFiles D) (image_a image_b log_a log_b : List ℕ) : Type 0 where
-    pub image_a_is : image_a ≡ file files.image_a
-    pub image_b_is : image_b ≡ file files.image_b
-    pub log_a_is : log_a ≡ file files.log_a
-    pub log_b_is : log_b ≡ file files.log_b
+  -- recovery of the bytes that were read has this result; on files that keep to the disk model, the
+  -- bytes are what the files hold
+  pub record RecoversBytes (honest : Bool) (files : FourFiles D)
+      (result : Result Recovery Refusal) : Type 0 where
+    pub bytes : FourFiles (List ℕ)
+    pub recovers : RecoversAll bytes result
+    pub read : IsTrue honest → bytes ≡ mapped file files
 
--- The reasons why no world is recovered: memory ran out, a device failed, or recovery refuses the
--- bytes that were read. On files that keep to the disk model, those bytes are what the files hold.
-abbrev pub IsRefused : {D : Type 0} → (file : D → List ℕ) → (honest : Bool)
-    → FourFiles D → Refusal → Type 0
-IsRefused file honest files refusal =
-    (refusal ≡ NoMemory) ⊎ ((refusal ≡ Device)
-    ⊎ ((image_a image_b log_a log_b : List ℕ) × Recovers image_a image_b log_a log_b (Err refusal)
-    × (IsTrue honest → AreRead file files image_a image_b log_a log_b)))
+  -- The reasons why no world is recovered: memory ran out, a device failed, or recovery refuses the
+  -- bytes that were read.
+  abbrev pub IsRefused : (honest : Bool) → FourFiles D → Refusal → Type 0
+  IsRefused honest files refusal =
+      (refusal ≡ NoMemory) ⊎ ((refusal ≡ Device) ⊎ RecoversBytes honest files (Err refusal))
 
 -- a refusal by a device comes only if the count of a file's faults grew
 abbrev pub HasFaulted : {D : Type 0} → (faults : D → ℕ)
@@ -61,23 +59,11 @@ abbrev pub HasFaulted : {D : Type 0} → (faults : D → ℕ)
 HasFaulted faults files left refusal =
     refusal ≡ Device → SomeGrew (fault_counts faults files) (fault_counts faults left)
 
--- recovery of some bytes has this result; on files that keep to the disk model, the bytes are
--- what the files hold
-pub record RecoversBytes {D : Type 0} (file : D → List ℕ) (honest : Bool)
-    (files : FourFiles D) : Type 0 where
-  pub image_a : List ℕ
-  pub image_b : List ℕ
-  pub log_a : List ℕ
-  pub log_b : List ℕ
-  pub recovery : Recovery
-  pub recovers : Recovers image_a image_b log_a log_b (Ok recovery)
-  pub read : IsTrue honest → AreRead file files image_a image_b log_a log_b
-
 -- the world and these ticks agree with the recovery
 pub record IsRecovered {D : Type 0} (file : D → List ℕ) (honest : Bool) (files : FourFiles D)
     (world : World D) (tick from : ℕ) : Type 0 where
-  pub bytes : RecoversBytes file honest files
-  pub open bytes use *
+  pub recovery : Recovery
+  pub recovers : RecoversBytes file honest files (Ok recovery)
   pub tick_is : tick ≡ recovery.tick
   pub from_is : from ≡ recovery.from
   pub words : world.content.live ≡ recovery.words

@@ -1,5 +1,5 @@
 -- A world at the beginning of its start. The last two parts are for private functions alone.
-use Rattle.std.specs.Prelude.{◌≡◌, ℕ, Bool, IsTrue, true, false, List, [], All, replicate}
+use Rattle.std.specs.Prelude.{◌≡◌, ℕ, Bool, true, false, List, [], All, replicate, Ok}
 use Rattle.world_actions.specs.World.{IsWord}
 use Rattle.disk_model.specs.declared.four_files.FourFiles.{FourFiles}
 use Rattle.image_files.specs.declared.phase.Phase.TheVariants.{Down}
@@ -22,10 +22,9 @@ pub record IsAhead {D : Type 0} (world : World D) (words : List ℕ) : Type 0 wh
 -- ---- reading
 
 -- recovery of the bytes that were read found this
-pub record IsFound {D : Type 0} (file : D → List ℕ) (honest : Bool) (files : FourFiles D)
-    (found : Recovered) : Type 0 where
-  pub bytes : RecoversBytes file honest files
-  pub is_found : bytes.recovery ≡ recovery_of_answer found
+abbrev pub IsFound : {D : Type 0} → (file : D → List ℕ) → (honest : Bool) → FourFiles D → Recovered
+    → Type 0
+IsFound file honest files found = RecoversBytes file honest files (Ok (recovery_of_answer found))
 
 -- ---- making files
 

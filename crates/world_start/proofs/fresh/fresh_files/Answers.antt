@@ -1,4 +1,4 @@
-use Rattle.std.proofs.Common.{◌≡◌, sym, ap, subst, ◌∙◌, [], false, arith, replicate}
+use Rattle.std.proofs.Common.{◌≡◌, sym, subst, ◌∙◌, [], arith, replicate}
 use Rattle.file_format.specs.declared.slot.Slot.TheVariants.{A}
 use Rattle.file_format.specs.Slot.{of_slot}
 use Rattle.disk_model.specs.declared.four_files.FourFiles.{FourFiles}

@@ -1,4 +1,4 @@
-use Rattle.std.proofs.Common.{◌≡◌, inl, inr, refl, sym, ap, subst, ◌∙◌, Ok, Err}
+use Rattle.std.proofs.Common.{◌≡◌, inl, inr, sym, ap, subst, ◌∙◌, Ok, Err}
 use Rattle.world_actions.specs.declared.refusal.Refusal.TheVariants.{Device, NoMemory}
 use Rattle.recovery.specs.Recovery.{Recovers}
 use Rattle.recovery.specs.Recovered.{recovery_of_answer}
@@ -20,10 +20,8 @@ returns-in_err-found-clause-refused g c =
     if_err c.from_residual-in_err-found.result refusal (IsRefused g.D.Disk.content g.D.Disk.honest c.args.files.now) c.from_residual-in_err-found.ensures.1
     (elim c.in_err-found.ensures.refused [
       | inl none ↦ inl none
-      | inr refused ↦ inr (inr (
-          let found = chosen g.D.Disk.content g.D.Disk.honest c.args.files.now (Err refusal) bytes.image_a.items bytes.image_b.items bytes.log_a.items bytes.log_b.items
-          (recovers_on (Err refusal) c.deref.ensures.value c.deref-2.ensures.value c.deref-3.ensures.value c.deref-4.ensures.value refused) c.in_ok-bytes.ensures.read in
-          (found.image_a, found.image_b, found.log_a, found.log_b, found.recovers, found.read)))
+      | inr refused ↦ inr (inr (chosen g.D.Disk.content g.D.Disk.honest c.args.files.now (Err refusal) bytes.image_a.items bytes.image_b.items bytes.log_a.items bytes.log_b.items
+          (recovers_on (Err refusal) c.deref.ensures.value c.deref-2.ensures.value c.deref-3.ensures.value c.deref-4.ensures.value refused) c.in_ok-bytes.ensures.read))
     ])
 
 pub returns-in_err-found-clause-device : goal.returns-in_err-found-clause-device
@@ -39,13 +37,9 @@ pub returns-clause-found : goal.returns-clause-found
 returns-clause-found g c =
     let found = c.in_ok-found.found in
     let bytes = c.in_ok-bytes.bytes in
-    let held = chosen g.D.Disk.content g.D.Disk.honest c.args.files.now (Ok (recovery_of_answer found)) bytes.image_a.items bytes.image_b.items bytes.log_a.items bytes.log_b.items
+    chosen g.D.Disk.content g.D.Disk.honest c.args.files.now (Ok (recovery_of_answer found)) bytes.image_a.items bytes.image_b.items bytes.log_a.items bytes.log_b.items
     (recovers_on (Ok (recovery_of_answer found)) c.deref.ensures.value c.deref-2.ensures.value c.deref-3.ensures.value
-    c.deref-4.ensures.value c.in_ok-found.ensures.recovered) c.in_ok-bytes.ensures.read in
-    record {
-      bytes = record { image_a = held.image_a; image_b = held.image_b; log_a = held.log_a; log_b = held.log_b; recovery = recovery_of_answer found; recovers = held.recovers; read = held.read };
-      is_found = refl;
-    }
+    c.deref-4.ensures.value c.in_ok-found.ensures.recovered) c.in_ok-bytes.ensures.read
 
 pub returns-clause-gates : goal.returns-clause-gates
 returns-clause-gates g c = λ honest.

@@ -1,5 +1,4 @@
-use Rattle.std.proofs.Common.{◌≡◌, sym, ap, subst, ◌∙◌, length, nat_lt, Some, Ok}
-use Rattle.recovery.specs.Recovery.{Recovery}
+use Rattle.std.proofs.Common.{sym, ap, subst, refl, ◌∙◌, length, nat_lt, Some, Ok}
 use Rattle.recovery.specs.Recovered.{recovery_of_answer}
 use Rattle.engine.specs.Begins.{Begins}
 use Rattle.engine.proofs.Beginning.{built_live}
@@ -21,16 +20,14 @@ begin-requires-clause-newest g c = λ honest.
 pub returns-in_ok-engine-in-Ok-clause-recovered : goal.returns-in_ok-engine-in-Ok-clause-recovered
 returns-in_ok-engine-in-Ok-clause-recovered g c =
     let found = c.in-Ok.field-0.found in
-    let f = c.in-Ok.ensures.found in
     let b = c.in_ok-engine-in-Ok.ensures.begins in
-    let world = c.in_ok-engine-in-Ok.engine in
-    let ended : world.ended ≡ f.bytes.recovery.tick = b.ended ∙ ap (λ (r : Recovery). r.tick) (sym f.is_found) in
     record {
-      bytes = f.bytes;
-      tick_is = ended;
-      from_is = ap (λ (r : Recovery). r.from) (sym f.is_found);
-      words = built_live c.deref.result.now (nat_lt found.from found.tick) world.content b.store ∙ (c.deref.ensures.value ∙ ap (λ (r : Recovery). r.words) (sym f.is_found));
-      ended = ended;
+      recovery = recovery_of_answer found;
+      recovers = c.in-Ok.ensures.found;
+      tick_is = b.ended;
+      from_is = refl;
+      words = built_live c.deref.result.now (nat_lt found.from found.tick) c.in_ok-engine-in-Ok.engine.content b.store ∙ c.deref.ensures.value;
+      ended = b.ended;
     }
 
 pub returns-in_ok-engine-in-Ok-clause-read : goal.returns-in_ok-engine-in-Ok-clause-read

@@ -1,4 +1,4 @@
-use Rattle.std.proofs.Common.{◌≡◌, ◌⊎◌, inl, inr, sym, ap, ◌∙◌, Some, ℕ}
+use Rattle.std.proofs.Common.{◌≡◌, ◌⊎◌, inl, inr, sym, ap, ◌∙◌}
 use Rattle.image_files.specs.declared.phase.Phase.TheVariants.{Down}
 use Rattle.image_files.specs.Progress.{Progress, begun_keeper, newest_tick}
 use Rattle.engine.specs.World.{World}

@@ -35,7 +35,8 @@ pub returns-in-Ok-clause-recovered : goal.returns-in-Ok-clause-recovered
 returns-in-Ok-clause-recovered g c =
     let r = c.in_ok-engine.ensures.recovered in
     record {
-      bytes = r.bytes;
+      recovery = r.recovery;
+      recovers = r.recovers;
       tick_is = c.ended-tick.ensures ∙ (c.start.ensures.ended.0 ∙ r.tick_is);
       from_is = r.from_is;
       words = c.start.ensures.live ∙ r.words;
