@@ -3,7 +3,7 @@ ghost use Rattle.std.specs.Prelude.{◌≡◌, ◌≢◌, ◌+◌, ◌≤◌};
 use crate::door::Door;
 use crate::failure::{Failure, Shortage};
 use crate::incoming::Incoming;
-use crate::session::Joined;
+use crate::session::JoinedSessions;
 use crate::session_threads::{Sessions, Shared};
 use std::alloc::Global;
 use std::io;
@@ -11,7 +11,7 @@ use std::sync::Wait;
 use std::thread::Threads;
 use std::time::Clock;
 use transports::Listener;
-use workers::{AskChannel, Looks};
+use workers::{AskChannel, Spins};
 
 /// Which clients a server takes.
 #[derive(Clone, Copy, Debug, PartialEq, Eq)]
@@ -42,13 +42,13 @@ pub struct Accepted {
     /// How many came: each had a session, or is among the unserved.
     pub connections: u32,
     /// The sessions, each of which has ended and was joined.
-    pub sessions: Joined,
+    pub sessions: JoinedSessions,
     /// How many were closed unanswered, or left before they were accepted.
     pub unserved: u32,
     pub closed: Closed,
 }
 
-/// Accepts so many connections, and serves each in its own thread. It waits out a shortage of
+/// Accepts the admitted connections, and serves each in its own thread. It waits out a shortage of
 /// descriptors or memory. A client that can be given no thread or no memory is closed unanswered.
 /// After the last one, or a failure of the listener, it closes the listener and waits for the
 /// sessions. It comes back at once if the server is left.
@@ -61,7 +61,7 @@ pub fn accept_sessions<
     listener: Listener,
     admission: Admission,
     asks: AskChannel,
-    looks: Looks,
+    spins: Spins,
     door: W,
 ) -> Accepted
     ensures all { result.closed ≡ Closed.AllCame → result.connections ≡ admission.clients }
@@ -73,7 +73,7 @@ pub fn accept_sessions<
     let Ok(mut sessions) = Sessions::new(alloc, asks) else {
         return Accepted {
             connections: 0,
-            sessions: Joined::none(),
+            sessions: JoinedSessions::none(),
             unserved: 0,
             closed: Closed::NoMemory,
         };
@@ -81,7 +81,7 @@ pub fn accept_sessions<
     let mut shared = Shared {
         alloc,
         idle: admission.idle,
-        looks,
+        spins,
         door,
     };
     let mut incoming = Incoming::new(listener);
@@ -117,7 +117,7 @@ fn finish<R: Threads + Wait + Clock, W: Door>(
     match (closed, sessions.join_all(rt, door)) {
         (Closed::Left, _) | (_, None) => Accepted {
             connections,
-            sessions: Joined::none(),
+            sessions: JoinedSessions::none(),
             unserved,
             closed: Closed::Left,
         },
@@ -130,7 +130,8 @@ fn finish<R: Threads + Wait + Clock, W: Door>(
     }
 }
 
-// Accepts so many connections, and starts a session for each that it can. It returns why it ended.
+// Accepts the admitted connections, and starts a session for each that it can. It returns why it
+// ended.
 fn accept_all<
     R: Threads + Wait + Clock + Copy + Send + 'static,
     W: Door + Clone + Drop + Send + 'static,

@@ -21,4 +21,4 @@ pub use door::{Door, Unserved};
 pub use pulse::{Counts, Pulse};
 pub use remote::Remote;
 pub use server::{NotServed, Stopped, serve_clients};
-pub use session::{Joined, Over, serve_batches, serve_session};
+pub use session::{JoinedSessions, Over, serve_batches, serve_session};

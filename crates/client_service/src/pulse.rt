@@ -73,7 +73,7 @@ impl Pulse {
         }
     }
 
-    /// So many ticks have ended, and so many of them since the last mark or start.
+    /// Notes how many ticks have ended in all, and since the last mark or start.
     pub fn ticks_ended(&self, ticks: u64, since: u64) {
         self.tick.store(ticks, Ordering::SeqCst);
         self.since.store(since, Ordering::SeqCst);

@@ -8,7 +8,7 @@ use std::marker::Model;
 use std::mem;
 use std::snapshot::Snapshot;
 use std::sync::{Arc, Wait};
-use workers::{Asker, AwaitedReply, Fault, Looks, Post, ReplySender, ReplySlot};
+use workers::{Asker, AwaitedReply, Fault, Post, ReplySender, ReplySlot, Spins};
 use world_actions::Refusal;
 
 /// The world that the workers run, for one session. Contracts see its asker, its last post
@@ -22,7 +22,7 @@ pub struct Remote<R: Wait + Copy> {
     /// that wasn't sent.
     slot: Option<ReplySlot>,
     /// How often it looks for a reply before it sleeps. Without this it sleeps at once.
-    looks: Option<Looks>,
+    spins: Option<Spins>,
     /// The memory for the next batch on its way: that of the last one that came back.
     spare: Batch,
     last: Option<Snapshot<Post>>,
@@ -59,7 +59,7 @@ impl<R: Wait + Copy> Remote<R> {
             alloc,
             asker,
             slot: None,
-            looks: None,
+            spins: None,
             spare: Batch::empty(alloc),
             last: None,
             fault: None,
@@ -74,29 +74,12 @@ impl<R: Wait + Copy> Remote<R> {
         self.pulse = pulse;
     }
 
-    // Counts a batch that is sent.
-    fn count_asked(&self) {
-        if let Some(pulse) = &self.pulse {
-            pulse.asked();
-        }
-    }
-
-    // Counts what came of it.
-    fn count_answered(&self, answer: &Result<Post, Refusal>) {
-        if let Some(pulse) = &self.pulse {
-            match answer {
-                Ok(post) => pulse.answered(Some(post.tick())),
-                Err(_) => pulse.answered(None),
-            }
-        }
-    }
-
-    /// The same, which looks for its replies by these looks.
-    pub fn looking(self, looks: Looks) -> Self
+    /// The same, which spins for its replies.
+    pub fn spinning(self, spins: Spins) -> Self
         ensures { result ≡ self }
     {
         let mut remote = self;
-        remote.looks = Some(looks);
+        remote.spins = Some(spins);
         remote
     }
 
@@ -122,14 +105,21 @@ impl<R: Wait + Copy> Remote<R> {
         Ok(b.try_copy(spare)?)
     }
 
-    // The same as `ask`, and counts it.
+    // The same as `ask`, and counts the batch and its answer.
     fn ask_counted(&mut self, b: &Batch, buffer: Vec<u8>) -> Result<Post, Refusal>
         ensures ok { IfOk result (IsAnsweredBy self.old b.now.list self.new) }
         ensures err { IfErr result (IsRefusedFor self.old self.new) }
     {
-        self.count_asked();
+        if let Some(pulse) = &self.pulse {
+            pulse.asked();
+        }
         let answer = self.ask(b, buffer);
-        self.count_answered(&answer);
+        if let Some(pulse) = &self.pulse {
+            pulse.answered(match &answer {
+                Ok(post) => Some(post.tick()),
+                Err(_) => None,
+            });
+        }
         answer
     }
 
@@ -170,10 +160,10 @@ impl<R: Wait + Copy> Remote<R> {
         ensures err { IfErr result.0 (λ fault. IsFaultOf self.old.asker fault
             × (self.new ≡ self.old)) }
     {
-        match &self.looks {
-            Some(looks) => {
-                let _counted = looks.enter();
-                self.asker.wait(&self.rt, b, awaited, looks.of_session())
+        match &self.spins {
+            Some(spins) => {
+                let _counted = spins.enter();
+                self.asker.wait(&self.rt, b, awaited, spins.of_session())
             }
             None => self.asker.wait(&self.rt, b, awaited, 0),
         }

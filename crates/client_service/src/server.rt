@@ -15,7 +15,7 @@ use std::time::Clock;
 use transports::Listener;
 use worker_steps::{Gates, Opened};
 use worker_threads::{NotStarted, StoppedWorkers, Watch, meet_stopped, start, stop};
-use workers::{Gate, Looks};
+use workers::{Gate, Spins};
 
 /// The workers and the listener of a server that has stopped.
 #[derive(Drop)]
@@ -106,10 +106,10 @@ pub fn serve_clients<
         HeardOnlyOfDown stopped.workers.mutator.heard.ticks stopped.workers.log_writer.down) }
 {
     let door = watch.clone()?;
-    let looks = Looks::on_this_machine(rt, alloc)?;
-    let looks_too = looks.clone()?;
-    let (workers, asks) = start(rt, alloc, gates, watch, opened, every, looks_too)?;
-    let accepted = accept_sessions(rt, alloc, listener, admission, asks, looks, door);
+    let spins = Spins::on_this_machine(rt, alloc)?;
+    let spins_too = spins.clone()?;
+    let (workers, asks) = start(rt, alloc, gates, watch, opened, every, spins_too)?;
+    let accepted = accept_sessions(rt, alloc, listener, admission, asks, spins, door);
     if let Closed::Left = accepted.closed {
         return Err(NotServed::Left);
     }

@@ -11,7 +11,7 @@ use std::io::{Read, Write};
 use std::sync::Wait;
 use std::time::Duration;
 use transports::Stream;
-use workers::{Asker, Looks};
+use workers::{Asker, Spins};
 use world_actions::Refusal;
 
 /// Shows that a session has ended: only `serve_session` makes one.
@@ -57,7 +57,7 @@ pub fn serve_session<R: Wait + Copy, W: Door + Drop>(
     stream: Stream,
     idle: Option<u32>,
     asker: Asker,
-    looks: Looks,
+    spins: Spins,
     door: W,
 ) -> Over {
     let mut door = door;
@@ -67,7 +67,7 @@ pub fn serve_session<R: Wait + Copy, W: Door + Drop>(
     if let Some(pulse) = &pulse {
         pulse.session_began();
     }
-    let mut world = Remote::new(*rt, alloc, asker).looking(looks);
+    let mut world = Remote::new(*rt, alloc, asker).spinning(spins);
     world.count_for(pulse);
     let served = serve_batches(alloc, &mut &stream, &mut &stream, &mut world);
     match served {
@@ -85,18 +85,18 @@ pub fn serve_session<R: Wait + Copy, W: Door + Drop>(
 
 /// How many sessions have ended and been joined. Each is counted by what its thread returned.
 #[derive(Clone, Copy, Debug, PartialEq, Eq)]
-pub struct Joined {
+pub struct JoinedSessions {
     count: u32,
 }
 
-impl Joined {
+impl JoinedSessions {
     pub fn none() -> Self
         ensures { result.count ≡ 0 }
     {
-        Joined { count: 0 }
+        JoinedSessions { count: 0 }
     }
 
-    /// Counts a session that is over, of so many that were started.
+    /// Counts a session that is over. Fewer are counted than were started.
     pub fn add(&mut self, _over: Over, _started: u32)
         requires { self.old.count < _started }
         ensures { self.new.count ≡ self.old.count + 1 }

@@ -3,7 +3,7 @@ ghost use Rattle.std.specs.Prelude.{◌≡◌, ◌+◌, ◌<◌, OnOk, OnErr, If
 ghost use Rattle.slab.specs.Slab.{slab_len};
 
 use crate::door::{Door, Unserved};
-use crate::session::{Joined, Over, serve_session};
+use crate::session::{JoinedSessions, Over, serve_session};
 use crossbeam_channel::{Receiver, Sender, bounded};
 use slab::Slab;
 use std::alloc::{AllocError, Global};
@@ -11,7 +11,7 @@ use std::sync::Wait;
 use std::thread::{self, JoinHandle, Threads};
 use std::time::{Clock, Duration};
 use transports::Stream;
-use workers::{AskChannel, Asker, Looks};
+use workers::{AskChannel, Asker, Spins};
 
 /// The stack of a session's thread, which needs a tenth of it. The system's own would be 8 MiB, of
 /// which the C library keeps five for threads to come, and 160 of these.
@@ -31,7 +31,7 @@ pub struct Shared<W: Door + Clone + Drop> {
     pub alloc: Global,
     /// After how many seconds of silence it ends.
     pub idle: Option<u32>,
-    pub looks: Looks,
+    pub spins: Spins,
     pub door: W,
 }
 
@@ -43,7 +43,7 @@ pub struct Sessions {
     ends: Sender<usize>,
     ended: Receiver<usize>,
     started: u32,
-    joined: Joined,
+    joined: JoinedSessions,
     ghost balance: { started ≡ joined.count + slab_len running },
 }
 
@@ -59,7 +59,7 @@ impl Sessions {
             ends,
             ended,
             started: 0,
-            joined: Joined::none(),
+            joined: JoinedSessions::none(),
         })
     }
 
@@ -120,7 +120,11 @@ impl Sessions {
 
     /// Waits until all have ended: those that were started were then joined, each once. It returns
     /// nothing if the server is left meanwhile.
-    pub fn join_all<R: Threads + Wait + Clock, W: Door>(self, rt: &R, door: &W) -> Option<Joined>
+    pub fn join_all<R: Threads + Wait + Clock, W: Door>(
+        self,
+        rt: &R,
+        door: &W,
+    ) -> Option<JoinedSessions>
         ensures { IfSome result (λ joined. joined.count ≡ self.started) }
     {
         let mut sessions = self;
@@ -149,7 +153,7 @@ fn start_thread<R: Threads + Wait + Copy + Send + 'static, W: Door + Clone + Dro
     ends: Sender<usize>,
     key: usize,
 ) -> Result<JoinHandle<Over>, Unserved> {
-    let Ok(looks) = shared.looks.clone() else {
+    let Ok(spins) = shared.spins.clone() else {
         return Err(Unserved::NoMemory);
     };
     let Ok(door) = shared.door.clone() else {
@@ -157,7 +161,7 @@ fn start_thread<R: Threads + Wait + Copy + Send + 'static, W: Door + Clone + Dro
     };
     let (here, alloc, idle) = (*rt, shared.alloc, shared.idle);
     let serve = move || {
-        let over = serve_session(&here, alloc, stream, idle, asker, looks, door);
+        let over = serve_session(&here, alloc, stream, idle, asker, spins, door);
         let _ = ends.send(&here, key);
         over
     };

@@ -5,6 +5,7 @@
 //! batch is answered once its tick is durable. The status is that of `worldd`.
 #![tactic(auto)]
 
+use capture_core::PlainCopy;
 use command_line::take_standard_streams;
 use file_disk::FileDisk;
 use serial_world::SerialWorld;
@@ -14,7 +15,6 @@ use std::io;
 use std::time::Clock;
 use world_actions::Refusal;
 use world_folder::{Ending, Exit, failure_of, open_existing, opened};
-use zigzag::Zigzag;
 
 /// The folder of the world.
 const FOLDER: &str = "world";
@@ -37,7 +37,7 @@ fn play<R: Input + Print + Eprint + Clock + Files<File = File> + AllocGlobal + C
     rt: &R,
 ) -> Result<(), Ending> {
     let files = open_existing(rt, FOLDER)?;
-    let mut world = match SerialWorld::<Zigzag, FileDisk>::open(rt.alloc(), files, EVERY) {
+    let mut world = match SerialWorld::<PlainCopy, FileDisk>::open(rt.alloc(), files, EVERY) {
         Ok(world) => world,
         Err((files, Refusal::Device)) => return Err(failure_of(rt.alloc(), FOLDER, files)),
         Err((_, refusal)) => return Err(Ending::Fault(refusal)),

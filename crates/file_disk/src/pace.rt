@@ -7,7 +7,7 @@ use std::alloc::{AllocError, Global};
 use std::sync::Arc;
 use std::sync::atomic::{AtomicU64, Ordering};
 
-/// So many written bytes are synced together.
+/// How many written bytes are synced together.
 const PIECE_BYTES: u64 = 16_384;
 
 /// How many ticks may be played during one round before its image is written without pauses. The
@@ -34,7 +34,7 @@ impl Pace {
         })
     }
 
-    /// So many ticks have ended since the world began.
+    /// Notes how many ticks have ended since the world began.
     pub fn ticks_ended(&self, ticks: u64) {
         self.ticks.store(ticks, Ordering::SeqCst);
     }
@@ -52,7 +52,7 @@ impl Clone for Pace {
     }
 }
 
-/// A file's way at a pace.
+/// The pace of one file.
 #[derive(Drop)]
 pub struct Paced {
     pace: Pace,
@@ -100,7 +100,7 @@ impl Paced {
     }
 }
 
-// True if a round that began after so many ticks is still paced after these.
+// True if a round that began after `begun` ticks is still paced after `ticks`.
 fn is_paced(begun: u64, ticks: u64) -> bool
     ensures { IsTrue result ↔ ((0 < ticks) × (ticks - begun < 8192)) }
 {

@@ -13,7 +13,7 @@ pub enum LogPart {
     Closed,
     /// It is a whole segment, and all of it is taken. Its first tick is the one after `base`.
     Whole { base: u64, ticks: usize },
-    /// The first `at` bytes are taken, with so many ticks. The rest is damaged or was refused.
+    /// The first `at` bytes and their ticks are taken. The rest is damaged or was refused.
     Cut { at: usize, base: u64, ticks: usize },
     /// Nothing of it is taken: no group leads it that is whole and accepted.
     Dropped,

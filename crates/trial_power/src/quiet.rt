@@ -7,7 +7,7 @@ use std::sync::Wait;
 use std::thread::Threads;
 use worker_steps::{Gates, Opened};
 use worker_threads::{Acked, TickWatch, Watch, Workers, start};
-use workers::{AskChannel, ImageWriter, Log, Looks, Open};
+use workers::{AskChannel, ImageWriter, Log, Open, Spins};
 use world_actions::Refusal;
 
 /// Reports nothing. Failures are seen at the end of a run.
@@ -47,8 +47,8 @@ pub fn start_quiet<
         checkpointer: Open,
         log_writer: Open,
     };
-    let looks = Looks::on_this_machine(rt, alloc)?;
-    match start(rt, alloc, gates, Quiet, opened, every, looks) {
+    let spins = Spins::on_this_machine(rt, alloc)?;
+    match start(rt, alloc, gates, Quiet, opened, every, spins) {
         Ok(started) => Ok(started),
         Err(_) => Err(Refusal::NoMemory),
     }

@@ -12,7 +12,7 @@ use std::alloc::Global;
 use std::sync::Wait;
 use std::thread::Threads;
 use worker_steps::{Gates, Opened};
-use workers::{AskChannel, Cut, Looks};
+use workers::{AskChannel, Cut, Spins};
 
 /// Starts the workers of a world, gives `play` the channel of their batches, and waits until the
 /// workers have ended. They end once the channel and its sessions are gone. Each worker makes as
@@ -41,8 +41,8 @@ pub fn stop_after<
         StaysSound D.content D.may_leave opened.front.live opened.images opened.log opened.ended
         stopped.mutator stopped.checkpointer stopped.log_writer) }
 {
-    let looks = Looks::on_this_machine(rt, alloc)?;
-    let (workers, sessions) = start(rt, alloc, cuts, watch, opened, every, looks)?;
+    let spins = Spins::on_this_machine(rt, alloc)?;
+    let (workers, sessions) = start(rt, alloc, cuts, watch, opened, every, spins)?;
     play(sessions);
     let mut stopped = stop(rt, workers);
     meet_stopped(&mut stopped);

@@ -21,8 +21,8 @@ use std::sync::Wait;
 use std::thread::{PromisedHandle, Threads};
 use worker_steps::{Gates, Opened, Together};
 use workers::{
-    AskChannel, AskReceiver, Checkpointer, Gate, ItemReceiver, ItemSender, LogWriter, Looks,
-    Mutator, Waiting,
+    AskChannel, AskReceiver, Checkpointer, Gate, ItemReceiver, ItemSender, LogWriter, Mutator,
+    Spins, Waiting,
 };
 use world_ticks::Tick;
 
@@ -137,7 +137,7 @@ pub fn start<
     watch: W,
     opened: Opened<M, D>,
     every: u32,
-    looks: Looks,
+    spins: Spins,
 ) -> Result<(Workers<M, D, A, B, C>, AskChannel), NotStarted>
     requires { IsWhole D.honest D.content opened.front opened.back opened.images
         opened.log opened.ended }
@@ -147,14 +147,14 @@ pub fn start<
     ensures sessions { IfOk result (λ made. made.1.next ≡ 0) }
 {
     let (sessions, mut asks) = AskChannel::open(alloc)?;
-    let looks_too = looks.clone()?;
-    asks.look_by(looks);
+    let spins_too = spins.clone()?;
+    asks.spin_by(spins);
     let Together {
         mutator,
         checkpointer,
         mut log_writer,
     } = Together::begin(rt, alloc, gates, opened, asks, every)?;
-    log_writer.look_by(looks_too);
+    log_writer.spin_by(spins_too);
     let workers = start_threads(rt, watch, mutator, checkpointer, log_writer)?;
     Ok((workers, sessions))
 }

@@ -29,8 +29,8 @@ impl Acked {
 /// Gets the reports of the mutator, in the mutator's own thread. No call may wait, since that
 /// holds up each batch.
 pub trait TickWatch {
-    /// So many ticks have ended, and so many of them since the last mark or start. It is called
-    /// after each batch, even after one that was refused.
+    /// Hears how many ticks have ended in all, and since the last mark or start. It is called after
+    /// each batch, even after one that was refused.
     fn ticks_ended(&mut self, ticks: u64, since: u64);
 }
 

@@ -14,6 +14,6 @@ pub mod Logging
 pub mod Publishing
 pub mod Imaging
 pub mod Meeting
-pub mod Looking
+pub mod Spins
 pub mod LoggingView
 pub mod PlayingView

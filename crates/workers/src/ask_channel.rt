@@ -7,8 +7,8 @@ ghost use Rattle.workers.specs.AskChannel.{AreOneAskChannel, with_ask};
 
 use crate::ask_rule::{AskView, BeginSession, InTurn, PartEnds, TakeAsk};
 use crate::asker::Asker;
-use crate::looks::{Looks, WorkerLooks};
 use crate::post::Ask;
+use crate::spins::{Spins, WorkerSpins};
 use crossbeam_channel::{Pass, RecvError, RuledReceiver, RuledSender, TryRecvError, bounded_with};
 use std::alloc::{AllocError, Global};
 use std::marker::Model;
@@ -54,7 +54,7 @@ pub struct AskReceiver {
     end: AskReceiveEnd,
     pass: Pass<Ask, AskView>,
     /// How often it looks for an ask before it sleeps.
-    looks: WorkerLooks,
+    spins: WorkerSpins,
 }
 
 impl Model for AskReceiver {
@@ -87,7 +87,7 @@ impl AskChannel {
             AskReceiver {
                 end: AskReceiveEnd { end: from },
                 pass: other,
-                looks: WorkerLooks::none(),
+                spins: WorkerSpins::none(),
             },
         ))
     }
@@ -114,10 +114,10 @@ impl AskChannel {
 
 impl AskReceiver {
     /// Uses these looks for asks from now on.
-    pub fn look_by(&mut self, looks: Looks)
+    pub fn spin_by(&mut self, spins: Spins)
         ensures { self.new ≡ self.old }
     {
-        self.looks = WorkerLooks::by(looks);
+        self.spins = WorkerSpins::by(spins);
     }
 
     /// Waits for the next ask. Returns `None` if no session is left that could ask.
@@ -126,20 +126,20 @@ impl AskReceiver {
             (λ ask. self.new ≡ with_ask self.old ask) }
         ensures numbered { IfSome result (λ ask. AreNumbered (self.old.taken ++ ask ∷ [])) }
     {
-        for _ in 0..self.looks.count() {
+        for _ in 0..self.spins.count() {
             match self.try_take(rt) {
                 Ok(ask) => {
-                    self.looks.found();
+                    self.spins.found();
                     return Some(ask);
                 }
                 Err(TryRecvError::Disconnected) => return None,
                 Err(TryRecvError::Empty) => thread::yield_now(),
             }
-            if self.looks.count() == 0 {
+            if self.spins.count() == 0 {
                 break;
             }
         }
-        self.looks.missed();
+        self.spins.missed();
         self.sleep(rt).ok()
     }
 

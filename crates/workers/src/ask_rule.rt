@@ -11,9 +11,9 @@ use crossbeam_channel::protocol::{Lesson, Outcome, Protocol, Split};
 pub enum AskView {
     /// No session has begun, and no ask was taken.
     Begins,
-    /// So many sessions have begun.
+    /// This number of sessions has begun.
     Numbers(u64),
-    /// The session of this number sent so many asks.
+    /// The session of the first number sent the second number of asks.
     Sends(u64, u64),
     /// These asks were taken.
     Takes([Ask; 0]),

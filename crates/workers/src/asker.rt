@@ -88,13 +88,13 @@ impl Asker {
         rt: &R,
         batch: &Batch,
         awaited: AwaitedReply,
-        looks: u32,
+        spins: u32,
     ) -> (Result<Post, Fault>, ReplySlot)
         ensures post { IfOk result.0 (λ post. IsNewPost self.old batch.now.list post
             × (self.new ≡ record self.old { posted = post.tick })) }
         ensures fault { IfErr result.0 (λ fault. IsFaultOf self.old fault × (self.new ≡ self.old)) }
     {
-        let (reply, slot) = awaited.wait(rt, looks);
+        let (reply, slot) = awaited.wait(rt, spins);
         (self.heed(batch, reply), slot)
     }
 

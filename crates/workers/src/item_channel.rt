@@ -11,7 +11,7 @@ ghost use Rattle.workers.specs.Channel.{IsBegun, AreOneChannel, with_item, with_
 
 use crate::item::{Item, View};
 use crate::item_rule::{All, InOrder, Move, Part, Pop, Push, Whole};
-use crate::looks::{Looks, WorkerLooks};
+use crate::spins::{Spins, WorkerSpins};
 use crossbeam_channel::{Pass, RecvError, RuledReceiver, RuledSender, TryRecvError, bounded_with};
 use restart::QUEUE_RECORDS;
 use std::alloc::{AllocError, Global};
@@ -59,7 +59,7 @@ pub struct ItemReceiver {
     end: ReceiveEnd,
     pass: Pass<Item, View>,
     /// How often it looks for an item before it sleeps.
-    looks: WorkerLooks,
+    spins: WorkerSpins,
 }
 
 impl Model for ItemReceiver {
@@ -108,7 +108,7 @@ pub fn open<R: Wait>(
         ItemReceiver {
             end: ReceiveEnd { end: from },
             pass: other,
-            looks: WorkerLooks::none(),
+            spins: WorkerSpins::none(),
         },
     ))
 }
@@ -134,10 +134,10 @@ impl ItemSender {
 
 impl ItemReceiver {
     /// Uses these looks for items from now on.
-    pub(crate) fn look_by(&mut self, looks: Looks)
+    pub(crate) fn spin_by(&mut self, spins: Spins)
         ensures { self.new ≡ self.old }
     {
-        self.looks = WorkerLooks::by(looks);
+        self.spins = WorkerSpins::by(spins);
     }
 
     /// Pops the item at the front, and waits while the channel is empty.
@@ -147,20 +147,20 @@ impl ItemReceiver {
             (λ _. self.new ≡ self.old) }
         ensures goes { IfOk result (λ x. Goes (items_end self.old.items) x) }
     {
-        for _ in 0..self.looks.count() {
+        for _ in 0..self.spins.count() {
             match self.try_pop(rt) {
                 Ok(item) => {
-                    self.looks.found();
+                    self.spins.found();
                     return Ok(item);
                 }
                 Err(TryRecvError::Disconnected) => return Err(RecvError),
                 Err(TryRecvError::Empty) => thread::yield_now(),
             }
-            if self.looks.count() == 0 {
+            if self.spins.count() == 0 {
                 break;
             }
         }
-        self.looks.missed();
+        self.spins.missed();
         self.sleep(rt)
     }
 

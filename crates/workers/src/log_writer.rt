@@ -26,7 +26,7 @@ ghost use Rattle.workers.specs.Logging.{WritesOnly, PopsOnly};
 
 use crate::gate::{Gate, Place, passes};
 use crate::item_channel::ItemReceiver;
-use crate::looks::Looks;
+use crate::spins::Spins;
 use action_log::{LogAnswer, LogKeeper, Record};
 use advance::advance;
 use answers::Answers;
@@ -121,10 +121,10 @@ impl<D: Disk + Drop, G: Gate + Drop> LogWriter<D, G> {
     }
 
     /// Uses these looks for items before it sleeps, from now on.
-    pub fn look_by(&mut self, looks: Looks)
+    pub fn spin_by(&mut self, spins: Spins)
         ensures { self.new ≡ self.old }
     {
-        self.from.look_by(looks);
+        self.from.spin_by(spins);
     }
 
     /// True if there are no more items.

@@ -91,8 +91,8 @@ impl AwaitedReply {
 
     /// Looks for the reply up to `looks` times, and then sleeps until the sender is gone. Returns
     /// `None` if the sender was dropped unused, and the slot, which is empty again.
-    pub fn wait<R: Wait>(self, rt: &R, looks: u32) -> (Option<Reply>, ReplySlot) {
-        if !self.sees_sent(looks) {
+    pub fn wait<R: Wait>(self, rt: &R, spins: u32) -> (Option<Reply>, ReplySlot) {
+        if !self.sees_sent(spins) {
             self.sleep(rt);
         }
         let AwaitedReply { place } = self;
@@ -102,8 +102,8 @@ impl AwaitedReply {
     }
 
     // Checks up to `looks` times if the sender is gone.
-    fn sees_sent(&self, looks: u32) -> bool {
-        for _ in 0..looks {
+    fn sees_sent(&self, spins: u32) -> bool {
+        for _ in 0..spins {
             if self.is_sent() {
                 return true;
             }

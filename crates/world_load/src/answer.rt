@@ -7,7 +7,7 @@ use line_grammar::{after, read_number};
 use std::alloc::{AllocError, Global};
 use world_actions::Refusal;
 
-/// The text after the number in an answer to so many lines, all of which were accepted.
+/// The text after the number in an answer to this many accepted lines.
 pub fn accepted(alloc: Global, lines: u32) -> Result<Vec<u8>, AllocError>
     ensures { IfOk result (λ text. text.items ≡ all_accepted lines) }
 {

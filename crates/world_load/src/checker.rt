@@ -21,7 +21,7 @@ impl Checker {
     ghost use Rattle.std.specs.Prelude.{◌≡◌, ◌≢◌, ◌<◌, ◌^◌, ℕ, false, IsTrue, IfOk};
     ghost use Rattle.world_load.specs.Answer.{all_accepted, answer_with};
 
-    /// For batches of so many lines, none of which is answered yet.
+    /// For batches of this number of lines, none of which is answered yet.
     pub fn new(alloc: Global, lines: u32) -> Result<Self, AllocError>
         ensures { IfOk result (λ checker. checker ≡ record { end = all_accepted lines; last = 0 }) }
     {

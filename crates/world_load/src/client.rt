@@ -59,7 +59,7 @@ impl Client {
     ghost use Rattle.std.specs.Io.KnownBytes.{Consumes};
     ghost use Rattle.world_load.specs.Answer.{all_accepted, answer_with, AreAnswersUpTo};
 
-    // One with batches of so many lines, which has sent nothing.
+    // A client with batches of this number of lines, which has sent nothing.
     fn new(alloc: Global, lines: u32, seed: u64) -> Result<Self, AllocError>
         ensures { IfOk result (λ client. client ≡ record { end = all_accepted lines; last = 0 }) }
     {

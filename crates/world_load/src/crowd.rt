@@ -51,7 +51,7 @@ pub fn run_crowd<
     })
 }
 
-// Connects so many times.
+// Opens this number of connections.
 fn connect<R: Net<Stream = TcpStream>>(
     rt: &R,
     alloc: Global,
@@ -120,7 +120,7 @@ fn play_over<R: Clock>(
     play(rt, alloc, &mut answers, &mut requests, load, seed, progress)
 }
 
-// Reports each second how many batches were answered, until so many clients have ended.
+// Reports each second how many batches were answered, until all clients have ended.
 fn watch<R: Wait + Clock + Eprint>(
     rt: &R,
     progress: &Progress,

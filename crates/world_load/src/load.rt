@@ -5,7 +5,7 @@ pub struct Load {
     pub connections: u32,
     /// How many sets a batch has.
     pub lines: u32,
-    /// The first so many cells are set.
+    /// How many cells are set, from the first one on.
     pub cells: u32,
     /// After how many batches a connection ends, if it isn't the seconds that end it.
     pub batches: Option<u32>,

@@ -44,7 +44,7 @@ fn report_rate<R: Print>(rt: &R, things: Counted, milliseconds: u64) -> Result<(
     Ok(())
 }
 
-// How many a second, of so many in so many milliseconds.
+// How many things there were a second.
 fn per_second(things: u64, milliseconds: u64) -> u64 {
     things
         .saturating_mul(1000)

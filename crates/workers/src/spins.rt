@@ -1,6 +1,6 @@
 //! How often a thread looks for what it waits for before it sleeps.
 ghost use Rattle.std.specs.Prelude.{◌≡◌};
-ghost use Rattle.workers.specs.Looking.{session_looks, worker_looks, misses_after};
+ghost use Rattle.workers.specs.Spins.{session_spins, worker_spins, misses_after};
 
 use std::alloc::{AllocError, Global};
 use std::sync::Arc;
@@ -8,29 +8,29 @@ use std::sync::atomic::{AtomicU64, Ordering};
 use std::thread::{self, Threads};
 
 /// How often a session looks for its post while a processor may be idle.
-const SESSION_LOOKS: u32 = 100;
+const SESSION_SPINS: u32 = 100;
 
 /// How often a worker looks for work while many sessions wait, so that none of them has to wake it.
-const WORKER_LOOKS: u32 = 200;
+const WORKER_SPINS: u32 = 200;
 
 /// How often a worker looks while few sessions wait: at most half as many as there are processors.
 /// These looks take some 0.3 ms, within which a client that was just answered mostly sends its next
 /// batch.
-const LONG_LOOKS: u32 = 1_000;
+const LONG_SPINS: u32 = 1_000;
 
-/// So many processors leave one for each thread on a batch's way: client, session and workers.
+/// The fewest processors with one for each thread on a batch's way: client, session and workers.
 const PROCESSORS_LEAST: u64 = 4;
 
-/// After so many waits in a row that ended in sleep, a worker stops looking.
+/// A worker stops looking after this number of waits in a row that ended in sleep.
 const MISSES_MOST: u32 = 4;
 
-/// A worker that has stopped looking leaves out so many waits before it tries again.
+/// How many waits a worker that has stopped looking leaves out before it tries again.
 const WAITS_BETWEEN: u32 = 16;
 
 /// How many sessions wait for their posts, and how many processors there are. Its clones
 /// share the count.
 #[derive(Drop)]
-pub struct Looks {
+pub struct Spins {
     waiting: Arc<AtomicU64, Global>,
     processors: u64,
 }
@@ -38,8 +38,8 @@ pub struct Looks {
 /// How often one worker looks, which depends on how its last waits ended. If `looks` is `None`, it
 /// waits as its channel does.
 #[derive(Drop)]
-pub(crate) struct WorkerLooks {
-    looks: Option<Looks>,
+pub(crate) struct WorkerSpins {
+    spins: Option<Spins>,
     misses: u32,
 }
 
@@ -48,10 +48,10 @@ pub struct Counted<'a> {
     waiting: &'a AtomicU64,
 }
 
-impl Looks {
+impl Spins {
     /// The looks on a machine with this number of processors. No session waits yet.
     pub fn new(alloc: Global, processors: u64) -> Result<Self, AllocError> {
-        Ok(Looks {
+        Ok(Spins {
             waiting: Arc::new(alloc, AtomicU64::new(0))?,
             processors,
         })
@@ -64,7 +64,7 @@ impl Looks {
             Ok(count) => count.get() as u64,
             Err(_) => 1,
         };
-        Looks::new(alloc, processors)
+        Spins::new(alloc, processors)
     }
 
     /// Counts a session as waiting.
@@ -77,7 +77,7 @@ impl Looks {
 
     /// How often a session looks for its post before it sleeps.
     pub fn of_session(&self) -> u32 {
-        session_looks(self.waiting(), self.processors)
+        session_spins(self.waiting(), self.processors)
     }
 
     // How many sessions wait for their posts.
@@ -86,23 +86,23 @@ impl Looks {
     }
 }
 
-impl WorkerLooks {
+impl WorkerSpins {
     /// A worker that never looks.
     pub(crate) fn none() -> Self
         ensures { result.misses ≡ 0 }
     {
-        WorkerLooks {
-            looks: None,
+        WorkerSpins {
+            spins: None,
             misses: 0,
         }
     }
 
     /// The looks of a worker that hasn't waited yet.
-    pub(crate) fn by(looks: Looks) -> Self
+    pub(crate) fn by(spins: Spins) -> Self
         ensures { result.misses ≡ 0 }
     {
-        WorkerLooks {
-            looks: Some(looks),
+        WorkerSpins {
+            spins: Some(spins),
             misses: 0,
         }
     }
@@ -110,8 +110,8 @@ impl WorkerLooks {
     /// How often the worker looks for work before it sleeps. Other threads run between its looks.
     /// It sleeps at once if this has become 0.
     pub(crate) fn count(&self) -> u32 {
-        match &self.looks {
-            Some(looks) => worker_looks(looks.waiting(), looks.processors, self.misses),
+        match &self.spins {
+            Some(spins) => worker_spins(spins.waiting(), spins.processors, self.misses),
             None => 0,
         }
     }
@@ -131,9 +131,9 @@ impl WorkerLooks {
     }
 }
 
-impl Clone for Looks {
+impl Clone for Spins {
     fn clone(&self) -> Result<Self, AllocError> {
-        Ok(Looks {
+        Ok(Spins {
             waiting: Arc::try_clone(&self.waiting)?,
             processors: self.processors,
         })
@@ -148,24 +148,24 @@ impl Drop for Counted<'_> {
 }
 
 // How often a session looks while this number of sessions waits.
-fn session_looks(waiting: u64, processors: u64) -> u32
-    ensures { result ≡ session_looks waiting processors }
+fn session_spins(waiting: u64, processors: u64) -> u32
+    ensures { result ≡ session_spins waiting processors }
 {
     if waiting < processors {
-        SESSION_LOOKS
+        SESSION_SPINS
     } else {
         0
     }
 }
 
 // How often a worker looks while this number of sessions waits, after so many misses.
-fn worker_looks(waiting: u64, processors: u64, misses: u32) -> u32
-    ensures { result ≡ worker_looks waiting processors misses }
+fn worker_spins(waiting: u64, processors: u64, misses: u32) -> u32
+    ensures { result ≡ worker_spins waiting processors misses }
 {
     if processors < waiting.saturating_sub(processors) {
-        WORKER_LOOKS
+        WORKER_SPINS
     } else if PROCESSORS_LEAST <= processors && waiting <= processors / 2 && misses < MISSES_MOST {
-        LONG_LOOKS
+        LONG_SPINS
     } else {
         0
     }
