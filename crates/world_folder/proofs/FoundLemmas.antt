@@ -1,14 +1,14 @@
 -- Files of which some are there, as disks.
-use Rattle.std.proofs.Common.{◌≡◌, List, [], ◌∷◌, Option, Some, None, IfSome, option_map, subst, refl, ap}
-use Rattle.disk_model.specs.FourFiles.{EachFile}
+use Rattle.std.proofs.Common.{◌≡◌, List, Option, Some, None, IfSome, option_map, subst, refl, ap}
+use Rattle.disk_model.specs.FourFiles.{EachFile, mapped}
 use Rattle.disk_model.specs.declared.four_files.FourFiles.{FourFiles}
 use Rattle.world_folder.specs.Completing.{AreFound}
 use Rattle.world_folder.specs.History.{Act}
 use Rattle.world_folder.specs.OwnFile.{AreApart, AreLookedFor, IsOwnIfThere}
 use Rattle.world_folder.specs.declared.entry.Identity.{Identity}
 use Rattle.world_folder.specs.declared.own_file.OwnFile.{OwnFile}
-use Rattle.world_folder.specs.declared.world_file.WorldFile.{WorldFile}
-use Rattle.world_folder.specs.declared.world_file.WorldFile.TheVariants.{ImageA, ImageB, LogA, LogB}
+use Rattle.disk_model.specs.declared.world_file.WorldFile.{WorldFile}
+use Rattle.disk_model.specs.declared.world_file.WorldFile.TheVariants.{ImageA, ImageB, LogA, LogB}
 
 module _ {D : Type 0} (identity : D → Identity) where
   own_disk : (file : WorldFile) (found : Option (OwnFile D)) (before after : List Act)
@@ -22,25 +22,11 @@ module _ {D : Type 0} (identity : D → Identity) where
   same_identity None is = refl
   same_identity (Some own) is = ap Some is
 
-  apart_along : (a b c d p q r s : Option Identity) → a ≡ p → b ≡ q → c ≡ r → d ≡ s
-      → AreApart (a ∷ b ∷ c ∷ d ∷ []) → AreApart (p ∷ q ∷ r ∷ s ∷ [])
-  apart_along a b c d p q r s ea eb ec ed is =
-      subst (λ (x : Option Identity). AreApart (x ∷ q ∷ r ∷ s ∷ [])) ea
-      (subst (λ (x : Option Identity). AreApart (a ∷ x ∷ r ∷ s ∷ [])) eb
-      (subst (λ (x : Option Identity). AreApart (a ∷ b ∷ x ∷ s ∷ [])) ec
-      (subst (λ (x : Option Identity). AreApart (a ∷ b ∷ c ∷ x ∷ [])) ed is)))
-
   pub found_of : (files : FourFiles (Option (OwnFile D))) (before after : List Act)
       → AreLookedFor (λ (own : OwnFile D). identity own.disk) files before after
       → EachFile files files (λ found other. IfSome found (λ own. own.identity ≡ identity own.disk))
-      → AreApart (option_map (λ (own : OwnFile D). own.identity) files.image_a ∷ option_map (λ (own : OwnFile D). own.identity) files.image_b
-      ∷ option_map (λ (own : OwnFile D). own.identity) files.log_a ∷ option_map (λ (own : OwnFile D). own.identity) files.log_b ∷ [])
-      → AreFound identity (record {
-        image_a = option_map (λ (own : OwnFile D). own.disk) files.image_a;
-        image_b = option_map (λ (own : OwnFile D). own.disk) files.image_b;
-        log_a = option_map (λ (own : OwnFile D). own.disk) files.log_a;
-        log_b = option_map (λ (own : OwnFile D). own.disk) files.log_b;
-      }) before after
+      → AreApart (mapped (option_map (λ (own : OwnFile D). own.identity)) files)
+      → AreFound identity (mapped (option_map (λ (own : OwnFile D). own.disk)) files) before after
   found_of files before after looked same apart = record {
     looked_for = record {
       with_image_a = looked.with_image_a;
@@ -51,6 +37,10 @@ module _ {D : Type 0} (identity : D → Identity) where
       log_a = own_disk LogA files.log_a looked.with_image_b looked.with_log_a looked.log_a;
       log_b = own_disk LogB files.log_b looked.with_log_a after looked.log_b;
     };
-    apart = apart_along _ _ _ _ _ _ _ _ (same_identity files.image_a same.image_a) (same_identity files.image_b same.image_b)
-        (same_identity files.log_a same.log_a) (same_identity files.log_b same.log_b) apart;
+    apart = subst AreApart (λ i. record {
+      image_a = same_identity files.image_a same.image_a i;
+      image_b = same_identity files.image_b same.image_b i;
+      log_a = same_identity files.log_a same.log_a i;
+      log_b = same_identity files.log_b same.log_b i;
+    }) apart;
   }

@@ -1,12 +1,12 @@
 -- The files of a folder in which a world is to be made: those that are there, and
 -- those that are made.
-use Rattle.std.specs.Prelude.{◌≡◌, ◌⊎◌, ◌≤◌, ℕ, List, ◌∷◌, [], true, length, Option, Some, None}
+use Rattle.std.specs.Prelude.{◌≡◌, ◌⊎◌, ◌≤◌, ℕ, List, ◌∷◌, [], length, Option, Some, None}
 use Rattle.std.specs.Prelude.{option_map}
 use Rattle.std.specs.Path.{path_buf_bytes, path_join}
 use Rattle.world_actions.specs.declared.refusal.Refusal.TheVariants.{NoMemory, Device, NotEmpty}
 use Rattle.file_format.specs.Gate.{HasOpenGate}
 use Rattle.disk_model.specs.Disk.{Only}
-use Rattle.disk_model.specs.FourFiles.{EachFile, KeepsFile}
+use Rattle.disk_model.specs.FourFiles.{EachFile, KeepsFile, mapped}
 use Rattle.world_start.specs.Opening.{AreSynced}
 use Rattle.disk_model.specs.declared.four_files.FourFiles.{FourFiles}
 use Rattle.world_folder.specs.declared.ending.Ending.{Ending}
@@ -16,17 +16,9 @@ use Rattle.world_folder.specs.declared.entry.Entry.{Entry}
 use Rattle.world_folder.specs.declared.entry.Identity.{Identity}
 use Rattle.world_folder.specs.History.{Act, Made, with_lock, synced}
 use Rattle.world_folder.specs.OwnFile.{AreLookedFor, AreApart}
-use Rattle.world_folder.specs.declared.unfinished.MadeFiles.{MadeFiles}
-use Rattle.world_folder.specs.declared.world_file.WorldFile.{WorldFile}
-use Rattle.world_folder.specs.declared.world_file.WorldFile.TheVariants.{ImageA, ImageB, LogA, LogB}
-use Rattle.world_folder.specs.declared.world_file.TheConstants.{IMAGE_A, IMAGE_B, LOG_A, LOG_B}
-
--- which files were made, once this one was made too
-abbrev pub with_made : WorldFile → MadeFiles → MadeFiles
-with_made ImageA made = record made { image_a = true }
-with_made ImageB made = record made { image_b = true }
-with_made LogA made = record made { log_a = true }
-with_made LogB made = record made { log_b = true }
+use Rattle.disk_model.specs.declared.world_file.WorldFile.{WorldFile}
+use Rattle.disk_model.specs.declared.world_file.WorldFile.TheVariants.{ImageA, ImageB, LogA, LogB}
+use Rattle.disk_model.specs.declared.world_file.TheConstants.{IMAGE_A, IMAGE_B, LOG_A, LOG_B}
 
 -- the ending says that a file isn't closed: its code is 22
 abbrev pub IsOccupied : Ending → Type 0
@@ -86,9 +78,7 @@ KeepsThere content may_leave (Some old) (Some new) = KeepsFile content may_leave
 pub record AreFound {D : Type 0} (identity : D → Identity) (files : FourFiles (Option D))
     (before after : List Act) : Type 0 where
   pub looked_for : AreLookedFor identity files before after
-  pub apart : AreApart
-      (option_map identity files.image_a ∷ option_map identity files.image_b
-      ∷ option_map identity files.log_a ∷ option_map identity files.log_b ∷ [])
+  pub apart : AreApart (mapped (option_map identity) files)
 
 module _ {D : Type 0} (content : D → List ℕ) (leaves : D → List ℕ → Type 0) where
   -- nothing of a file that is there is unsynced
@@ -96,11 +86,8 @@ module _ {D : Type 0} (content : D → List ℕ) (leaves : D → List ℕ → Ty
   IsSyncedIfThere None = Unit {0}
   IsSyncedIfThere (Some disk) = Only (content disk) (leaves disk)
 
-  pub record EachSynced (files : FourFiles (Option D)) : Type 0 where
-    pub image_a : IsSyncedIfThere files.image_a
-    pub image_b : IsSyncedIfThere files.image_b
-    pub log_a : IsSyncedIfThere files.log_a
-    pub log_b : IsSyncedIfThere files.log_b
+  abbrev pub EachSynced : FourFiles (Option D) → Type 0
+  EachSynced files = EachFile files files (λ file _. IsSyncedIfThere file)
 
   -- the file that was there, or a new and empty one, which is synced
   abbrev pub IsReady : (file : WorldFile) → Option D → D → (before after : List Act) → Type 0

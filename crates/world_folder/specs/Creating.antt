@@ -1,5 +1,5 @@
 -- A world that was made in a folder.
-use Rattle.std.specs.Prelude.{◌≡◌, ℕ, List, [], ◌∷◌, length, replicate, Option}
+use Rattle.std.specs.Prelude.{◌≡◌, ℕ, List, [], ◌∷◌, length, replicate, Option, Bool}
 use Rattle.disk_model.specs.FourFiles.{EachFile}
 use Rattle.disk_model.specs.declared.four_files.FourFiles.{FourFiles}
 use Rattle.world_actions.specs.declared.refusal.Refusal.TheVariants.{NoMemory}
@@ -13,7 +13,6 @@ use Rattle.world_folder.specs.Texts.{created_text}
 use Rattle.world_folder.specs.declared.entry.Identity.{Identity}
 use Rattle.world_folder.specs.declared.ending.Ending.{Ending}
 use Rattle.world_folder.specs.declared.ending.Ending.TheVariants.{Fault, Unreadable, Unfinished}
-use Rattle.world_folder.specs.declared.unfinished.MadeFiles.{MadeFiles}
 use Rattle.world_folder.specs.declared.unfinished.Why.TheVariants as why
 
 module _ {D : Type 0} (identity : D → Identity) (content : D → List ℕ)
@@ -58,7 +57,7 @@ module _ {D : Type 0} (identity : D → Identity) (content : D → List ℕ)
 
 -- the ending of a command that made these files: it names them, if a file failed or
 -- memory was wanting
-abbrev pub IsUnfinished : MadeFiles → Ending → Ending → Type 0
+abbrev pub IsUnfinished : FourFiles Bool → Ending → Ending → Type 0
 IsUnfinished made (Unreadable file) result =
     result ≡ Unfinished (record { made = made; why = why.File file })
 IsUnfinished made (Fault NoMemory) result =

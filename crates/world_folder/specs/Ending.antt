@@ -30,9 +30,9 @@ use Rattle.world_folder.specs.declared.lost.Checks.{Checks}
 use Rattle.world_folder.specs.declared.words_text.BadWords.TheVariants as bad
 use Rattle.world_folder.specs.declared.unfinished.Why.{Why}
 use Rattle.world_folder.specs.declared.unfinished.Why.TheVariants as why
-use Rattle.world_folder.specs.declared.world_file.Named.{Named}
-use Rattle.world_folder.specs.declared.world_file.WorldFile.{WorldFile}
-use Rattle.world_folder.specs.WorldFile.{name_of}
+use Rattle.disk_model.specs.declared.world_file.WorldFile.{WorldFile}
+use Rattle.disk_model.specs.declared.world_file.TheConstants.{IMAGE_A, IMAGE_B, LOG_A, LOG_B}
+use Rattle.disk_model.specs.FourFiles.{name_of}
 
 -- the system has no descriptor, lock or buffer more, by its number of the error
 abbrev pub IsExhausted : Option ℤ → Type 0
@@ -40,7 +40,7 @@ IsExhausted None = ⊥
 IsExhausted (Some error) =
     (error ≡ pos 23) ⊎ ((error ≡ pos 24) ⊎ ((error ≡ pos 37) ⊎ (error ≡ pos 105)))
 
--- memory, room on a disk, or a thing of the system is wanting: it may be there at another try. A
+-- memory, room on a disk, or another resource is short: it may be there at another try. A
 -- write that was cut short is of these.
 abbrev pub IsShortage : Error → Type 0
 IsShortage error =
@@ -162,18 +162,18 @@ ReportsFailure folder (Some failed) ending = ReportsOf folder (name_of failed.0)
 
 -- the ending names the first of four files in a folder that couldn't be read, with its error
 abbrev pub ReportsOfFirst : (folder : List ℕ)
-    → FourFiles (Named (Result (Vec ℕ Global) Error)) → Ending → Type 0
+    → FourFiles (Result (Vec ℕ Global) Error) → Ending → Type 0
 ReportsOfFirst folder files ending =
-    MatchResult files.image_a.value (λ _. MatchResult files.image_b.value
-    (λ _. MatchResult files.log_a.value (λ _. MatchResult files.log_b.value (λ _. ⊥)
-    (λ error. ReportsOf folder (name_of files.log_b.file) error ending))
-    (λ error. ReportsOf folder (name_of files.log_a.file) error ending))
-    (λ error. ReportsOf folder (name_of files.image_b.file) error ending))
-    (λ error. ReportsOf folder (name_of files.image_a.file) error ending)
+    MatchResult files.image_a (λ _. MatchResult files.image_b
+    (λ _. MatchResult files.log_a (λ _. MatchResult files.log_b (λ _. ⊥)
+    (λ error. ReportsOf folder LOG_B.now error ending))
+    (λ error. ReportsOf folder LOG_A.now error ending))
+    (λ error. ReportsOf folder IMAGE_B.now error ending))
+    (λ error. ReportsOf folder IMAGE_A.now error ending)
 
 -- the ending says why no world was found in the four files of a folder, which were read so
 abbrev pub ReportsWhy : Checks → (folder : List ℕ)
-    → FourFiles (Named (Result (Vec ℕ Global) Error)) → Ending → Type 0
+    → FourFiles (Result (Vec ℕ Global) Error) → Ending → Type 0
 ReportsWhy checks folder files (NoWorld fault) =
     (bytes : Files) × AreRead files bytes × Explains checks bytes fault
 ReportsWhy checks folder files ending = ReportsOfFirst folder files ending

@@ -10,7 +10,6 @@ use Rattle.recovery.specs.declared.recovered.Recovered.{Recovered}
 use Rattle.recovery.specs.Recovered.{recovery_of_answer}
 use Rattle.disk_model.specs.declared.four_files.FourFiles.{FourFiles}
 use Rattle.disk_model.specs.FourFiles.{EachFile}
-use Rattle.world_folder.specs.declared.world_file.Named.{Named}
 use Rattle.world_folder.specs.declared.fault.Fault.{Fault}
 use Rattle.world_folder.specs.declared.fault.Fault.TheVariants.{NoMemory, NoImage, Images, Segments}
 use Rattle.world_folder.specs.declared.fault.Fault.TheVariants.{Replay, Lost}
@@ -25,8 +24,8 @@ abbrev pub Files : Type 0
 Files = FourFiles (Vec ℕ Global)
 
 -- four files were read, and these are their bytes
-abbrev pub AreRead : {E : Type 0} → FourFiles (Named (Result (Vec ℕ Global) E)) → Files → Type 0
-AreRead given files = EachFile given files (λ named bytes. named.value ≡ Ok bytes)
+abbrev pub AreRead : {E : Type 0} → FourFiles (Result (Vec ℕ Global) E) → Files → Type 0
+AreRead given files = EachFile given files (λ read bytes. read ≡ Ok bytes)
 
 -- recovery finds this in the four files
 abbrev pub Stands : Files → Recovered → Type 0

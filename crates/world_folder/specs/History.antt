@@ -8,8 +8,8 @@ use Rattle.disk_model.specs.declared.four_files.FourFiles.{FourFiles}
 use Rattle.world_folder.specs.declared.entry.Entry.{Entry}
 use Rattle.world_folder.specs.declared.guard.Guard.{Guard}
 use Rattle.world_folder.specs.declared.locks.LockState.{LockState}
-use Rattle.world_folder.specs.declared.world_file.WorldFile.{WorldFile}
-use Rattle.world_folder.specs.declared.world_file.WorldFile.TheVariants.{ImageA, ImageB, LogA, LogB}
+use Rattle.disk_model.specs.declared.world_file.WorldFile.{WorldFile}
+use Rattle.disk_model.specs.declared.world_file.WorldFile.TheVariants.{ImageA, ImageB, LogA, LogB}
 
 -- a call that succeeded, with its answer, or a failure that is noted
 pub data Act : Type 0 where

@@ -1,4 +1,3 @@
-pub mod WorldFile
 pub mod Guard
 pub mod Lost
 pub mod Fault

@@ -19,7 +19,7 @@ use Rattle.world_start.specs.Opening.{AreSynced, RecoversFiles}
 use Rattle.world_start.specs.Fresh.{FilesAreClosed, AreFreshOrSound}
 use Rattle.world_folder.specs.declared.ending.Ending.{Ending}
 use Rattle.world_folder.specs.declared.ending.Ending.TheVariants.{Fault, Occupied}
-use Rattle.world_folder.specs.declared.world_file.TheConstants.{IMAGE_A, IMAGE_B, LOG_A, LOG_B}
+use Rattle.disk_model.specs.declared.world_file.TheConstants.{IMAGE_A, IMAGE_B, LOG_A, LOG_B}
 
 -- of four files with these bytes, the one of this name is the first that isn't closed
 abbrev pub IsFirstOpen : (image_a image_b log_a log_b name : List ℕ) → Type 0

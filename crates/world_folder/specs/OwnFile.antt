@@ -1,10 +1,11 @@
 -- Files that a world has to itself.
-use Rattle.std.specs.Prelude.{◌≡◌, ◌≢◌, List, ◌∷◌, [], Option, Some, None}
+use Rattle.std.specs.Prelude.{◌≡◌, ◌≢◌, List, ◌∷◌, Option, Some, None}
 use Rattle.disk_model.specs.declared.four_files.FourFiles.{FourFiles}
+use Rattle.disk_model.specs.FourFiles.{mapped}
 use Rattle.world_folder.specs.declared.entry.Identity.{Identity}
 use Rattle.world_folder.specs.declared.entry.Entry.{Entry}
 use Rattle.world_folder.specs.declared.entry.FileKind.TheVariants.{Regular}
-use Rattle.world_folder.specs.declared.world_file.WorldFile.{WorldFile}
+use Rattle.disk_model.specs.declared.world_file.WorldFile.{WorldFile}
 use Rattle.world_folder.specs.History.{Act, Looked, Opened, NamesSynced, AreInTurn, with_lock}
 
 -- an entry, for files of which contracts state none
@@ -20,10 +21,11 @@ IsApart (Some a) (Some b) = a ≢ b
 IsApart a b = Unit {0}
 
 -- no two of four are one file
-abbrev pub AreApart : List (Option Identity) → Type 0
-AreApart (a ∷ b ∷ c ∷ d ∷ []) =
-    IsApart a b × IsApart a c × IsApart a d × IsApart b c × IsApart b d × IsApart c d
-AreApart other = ⊥
+abbrev pub AreApart : FourFiles (Option Identity) → Type 0
+AreApart files =
+    IsApart files.image_a files.image_b × IsApart files.image_a files.log_a
+    × IsApart files.image_a files.log_b × IsApart files.image_b files.log_a
+    × IsApart files.image_b files.log_b × IsApart files.log_a files.log_b
 
 -- The regular file that stood under its name was opened to be written. It has no other name. It was
 -- locked, if it is image.a.
@@ -56,9 +58,7 @@ module _ {D : Type 0} (identity : D → Identity) where
   pub record AreHeld (files : FourFiles D) (before after : List Act) : Type 0 where
     pub opened : List Act
     pub own : AreOwn files before opened
-    pub apart : AreApart
-        (Some (identity files.image_a) ∷ Some (identity files.image_b) ∷ Some (identity files.log_a)
-        ∷ Some (identity files.log_b) ∷ [])
+    pub apart : AreApart (mapped (λ disk. Some (identity disk)) files)
     pub synced : after ≡ NamesSynced ∷ opened
 
   -- each file of four was looked for by its own name, image.a first

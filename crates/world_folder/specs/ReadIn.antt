@@ -2,13 +2,11 @@
 use Rattle.std.specs.Prelude.{◌≡◌, ◌⊎◌, ℕ, List, ◌∷◌, Result, Ok, Err, Vec}
 use Rattle.std.specs.declared.alloc.Global.{Global}
 use Rattle.std.specs.declared.io.Error.{Error}
-use Rattle.disk_model.specs.declared.four_files.FourFiles.{FourFiles}
 use Rattle.image_files.specs.ImageRead.{IsImageRead}
 use Rattle.file_readers.specs.Reading.{IsSegmentRead}
-use Rattle.world_folder.specs.declared.world_file.Named.{Named}
-use Rattle.world_folder.specs.declared.world_file.WorldFile.{WorldFile}
-use Rattle.world_folder.specs.declared.world_file.WorldFile.TheVariants.{ImageA, ImageB, LogA, LogB}
-use Rattle.world_folder.specs.History.{Act, Read, AreInTurn, IsUnopened}
+use Rattle.disk_model.specs.declared.world_file.WorldFile.{WorldFile}
+use Rattle.disk_model.specs.declared.world_file.WorldFile.TheVariants.{ImageA, ImageB, LogA, LogB}
+use Rattle.world_folder.specs.History.{Act, Read, IsUnopened}
 
 -- these bytes of a file are all that its format reads
 abbrev pub IsFileRead : WorldFile → (file bytes : List ℕ) → Type 0
@@ -26,10 +24,3 @@ IsReadIn file (Ok bytes) before after =
 IsReadIn file (Err error) before after =
     IsUnopened file error before after
     ⊎ ((content : List ℕ) × (after ≡ Read file content ∷ before))
-
--- each file of four was read by its own name
-abbrev pub AreReadIn : FourFiles (Named (Result (Vec ℕ Global) Error)) → (before after : List Act)
-    → Type 0
-AreReadIn files before after =
-    AreInTurn (λ (file : WorldFile) (named : Named (Result (Vec ℕ Global) Error)).
-    IsReadIn file named.value) files before after

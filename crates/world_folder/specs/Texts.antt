@@ -16,7 +16,7 @@ use Rattle.world_folder.specs.declared.lost.Finding.{Finding}
 use Rattle.world_folder.specs.declared.lost.Finding.TheVariants as finding
 use Rattle.world_folder.specs.declared.words_text.BadWords.{BadWords}
 use Rattle.world_folder.specs.declared.words_text.BadWords.TheVariants as bad
-use Rattle.world_folder.specs.declared.world_file.TheConstants.{IMAGE_A, IMAGE_B, LOG_A, LOG_B}
+use Rattle.disk_model.specs.declared.world_file.TheConstants.{IMAGE_A, IMAGE_B, LOG_A, LOG_B}
 
 -- ---- a world
 

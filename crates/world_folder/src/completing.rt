@@ -1,11 +1,12 @@
 //! The four files in which a world is to be made, of those that are there and of new ones.
 ghost use Rattle.std.specs.IoError.{error_kind};
 ghost use Rattle.std.specs.Prelude.{◌≡◌, ◌≢◌, ◌↔◌, ◌≤◌, IsTrue, Ok, Err, None, IfOk, IfErr, OnOk};
-ghost use Rattle.std.specs.Prelude.{IfSome, IfNone, IsErrAnd};
+ghost use Rattle.std.specs.Prelude.{IfSome, IfNone, IsErrAnd, true};
 ghost use Rattle.disk_model.specs.FourFiles.{EachFile, KeepsFile};
 ghost use Rattle.world_folder.specs.Completing.{IsOccupied, IsOpenFile, IsOpenThere, IsFirstThere};
 ghost use Rattle.world_folder.specs.Completing.{NoneIsOpen, ReportsOpen, KeepsThere, IsReady};
-ghost use Rattle.world_folder.specs.Completing.{AreReady, AreCompleted, with_made};
+ghost use Rattle.world_folder.specs.Completing.{AreReady, AreCompleted};
+ghost use Rattle.disk_model.specs.FourFiles.{with_value};
 ghost use Rattle.world_folder.specs.Ending.{IsFault, NamesFile};
 
 use crate::ending::{Ending, Occupied};
@@ -14,9 +15,7 @@ use crate::locks::WRITTEN;
 use crate::look::{IMAGE_HEAD, SEGMENT_HEAD};
 use crate::opening::{opened, path_of};
 use crate::own_file::take_own;
-use crate::unfinished::MadeFiles;
-use crate::world_file::{IMAGE_A, IMAGE_B, LOG_A, LOG_B, WorldFile};
-use disk_model::{Disk, FourFiles};
+use disk_model::{Disk, FourFiles, IMAGE_A, IMAGE_B, LOG_A, LOG_B, WorldFile};
 use file_format::OPEN_GATE;
 use std::alloc::Global;
 use std::io::{self, ErrorKind};
@@ -106,7 +105,7 @@ fn make_absent<F: Folder>(
     folder: &mut F,
     path: &str,
     present: &mut FourFiles<Option<F::File>>,
-    made: &mut MadeFiles,
+    made: &mut FourFiles<bool>,
 ) -> Result<FourFiles<F::File>, Ending>
     ensures ready { IsTrue F.honest → IsTrue F.File.honest → IfOk result (λ files.
         AreReady F.File.content F.File.may_leave present.old files (F.history folder.old)
@@ -156,14 +155,14 @@ fn there_or_made<F: Folder>(
     path: &str,
     file: WorldFile,
     present: &mut Option<F::File>,
-    made: &mut MadeFiles,
+    made: &mut FourFiles<bool>,
 ) -> Result<F::File, Ending>
     ensures ready { IsTrue F.honest → IsTrue F.File.honest → IfOk result (λ disk.
         IsReady F.File.content F.File.may_leave file present.old disk (F.history folder.old)
         (F.history folder.new)) }
     ensures there { IfSome present.old (λ disk. result ≡ Ok disk) }
     ensures none_made { IfSome present.old (λ _. made.new ≡ made.old) }
-    ensures made { IfNone present.old (OnOk result (made.new ≡ with_made file made.old)) }
+    ensures made { IfNone present.old (OnOk result (made.new ≡ with_value file true made.old)) }
     ensures other { IfErr result (λ ending. ¬ IsOccupied ending) }
     ensures fault { IfErr result IsFault }
 {
@@ -179,19 +178,19 @@ fn make_empty<F: Folder>(
     folder: &mut F,
     path: &str,
     file: WorldFile,
-    made: &mut MadeFiles,
+    made: &mut FourFiles<bool>,
 ) -> Result<F::File, Ending>
     ensures acts { IsTrue F.honest → IsTrue F.File.honest → IfOk result (λ disk.
         IsReady F.File.content F.File.may_leave file None disk (F.history folder.old)
         (F.history folder.new)) }
-    ensures made { OnOk result (made.new ≡ with_made file made.old) }
+    ensures made { OnOk result (made.new ≡ with_value file true made.old) }
     ensures other { IfErr result (λ ending. ¬ IsOccupied ending) }
     ensures named { IfErr result (NamesFile path.now file) }
     ensures fault { IfErr result IsFault }
 {
     let handle = made_alone(folder.make(file));
     let handle = opened(alloc, path, file.name(), handle)?;
-    made.note(file);
+    made.set(file, true);
     let disk = take_own(folder, file, handle);
     opened(alloc, path, file.name(), disk)
 }
@@ -218,7 +217,7 @@ pub fn complete<F: Folder>(
     folder: &mut F,
     path: &str,
     present: &mut FourFiles<Option<F::File>>,
-    made: &mut MadeFiles,
+    made: &mut FourFiles<bool>,
 ) -> Result<FourFiles<F::File>, Ending>
     ensures completed { IsTrue F.honest → IsTrue F.File.honest → IfOk result (λ files.
         AreCompleted F.File.content F.File.may_leave present.old files (F.history folder.old)

@@ -7,6 +7,7 @@ ghost use Rattle.world_folder.specs.Completing.{AreTaken, IsOccupied};
 ghost use Rattle.world_folder.specs.Creating.{AreZeros, AreWords, IsCreated, IsCreatedOfWords};
 ghost use Rattle.world_folder.specs.Creating.{IsRefused, IsUnfinished};
 ghost use Rattle.world_folder.specs.Ending.{IsFault, ReportsFailure};
+ghost use Rattle.disk_model.specs.FourFiles.{mapped};
 ghost use Rattle.world_folder.specs.Failing.{failure_there, first_failure};
 ghost use Rattle.world_folder.specs.History.{Printed};
 ghost use Rattle.world_folder.specs.Texts.{created_text};
@@ -20,7 +21,7 @@ use crate::making::{Made, make_in, make_of_words};
 use crate::opening::{failure_of, failure_of_present, opened, path_of, sync_names};
 use crate::present::open_present;
 use crate::system_folder::SystemFolder;
-use crate::unfinished::{MadeFiles, Unfinished, Why};
+use crate::unfinished::{Unfinished, Why};
 use crate::words_text::{BadWords, Listed, TEXT_BYTES};
 use disk_model::FourFiles;
 use std::alloc::Global;
@@ -67,7 +68,7 @@ pub fn create_zeros<F: Folder>(
         (F.history folder.old) (F.history folder.new)) }
     ensures fault { IfErr result IsFault }
 {
-    let mut made = MadeFiles::none();
+    let mut made = FourFiles::each(false);
     match make_zeros(alloc, folder, path, cells, &mut made) {
         Ok((files, world)) => match folder.print(world) {
             Ok(()) => Ok((files, world)),
@@ -82,7 +83,7 @@ fn make_zeros<F: Folder>(
     folder: &mut F,
     path: &str,
     cells: u32,
-    made: &mut MadeFiles,
+    made: &mut FourFiles<bool>,
 ) -> Result<(FourFiles<F::File>, Made), Ending>
     requires { (1 ≤ cells) × (cells ≤ CELLS) }
     ensures zeros { IsTrue F.honest → IsTrue F.File.honest → IfOk result (λ made.
@@ -142,7 +143,7 @@ pub fn create_listed<F: Folder>(
         (F.history folder.old) (F.history folder.new)) }
     ensures fault { IfErr result IsFault }
 {
-    let mut made = MadeFiles::none();
+    let mut made = FourFiles::each(false);
     match make_listed(alloc, folder, path, listed, &mut made) {
         Ok((files, world)) => match folder.print(world) {
             Ok(()) => Ok((files, world)),
@@ -157,7 +158,7 @@ fn make_listed<F: Folder>(
     folder: &mut F,
     path: &str,
     listed: &Listed,
-    made: &mut MadeFiles,
+    made: &mut FourFiles<bool>,
 ) -> Result<(FourFiles<F::File>, Made), Ending>
     requires { IsWorld listed.now.words.items }
     ensures words { IsTrue F.honest → IsTrue F.File.honest → IfOk result (λ made.
@@ -183,7 +184,7 @@ fn four_files<F: Folder>(
     alloc: Global,
     folder: &mut F,
     path: &str,
-    made: &mut MadeFiles,
+    made: &mut FourFiles<bool>,
 ) -> Result<FourFiles<F::File>, Ending>
     ensures taken { IsTrue F.honest → IsTrue F.File.honest → IfOk result (λ files.
         AreTaken F.File.content F.File.may_leave F.identity files (F.history folder.old)
@@ -256,8 +257,7 @@ fn not_made<D: WorldDisk + Drop>(
     requires { IsFault ending }
     ensures other { ending ≢ Ending.Fault Refusal.Device → result ≡ ending }
     ensures device { IsTrue D.honest → ending ≡ Ending.Fault Refusal.Device
-        → ReportsFailure folder.now (first_failure (D.failure files.image_a)
-        (D.failure files.image_b) (D.failure files.log_a) (D.failure files.log_b)) result }
+        → ReportsFailure folder.now (first_failure (mapped D.failure files)) result }
     ensures same { IsOccupied result → result ≡ ending }
     ensures fault { IsFault result }
 {
@@ -278,9 +278,8 @@ fn not_read<D: WorldDisk + Drop>(
     requires { IsFault ending }
     ensures other { ending ≢ Ending.Fault Refusal.Device → result ≡ ending }
     ensures device { IsTrue D.honest → ending ≡ Ending.Fault Refusal.Device
-        → ReportsFailure folder.now (first_failure (failure_there D.failure present.image_a)
-        (failure_there D.failure present.image_b) (failure_there D.failure present.log_a)
-        (failure_there D.failure present.log_b)) result }
+        → ReportsFailure folder.now
+        (first_failure (mapped (failure_there D.failure) present)) result }
     ensures same { IsOccupied result → result ≡ ending }
     ensures fault { IsFault result }
 {
@@ -291,7 +290,7 @@ fn not_read<D: WorldDisk + Drop>(
 }
 
 // How the program ends if it ends so and files were made: they are named.
-fn unfinished(made: MadeFiles, ending: Ending) -> Ending
+fn unfinished(made: FourFiles<bool>, ending: Ending) -> Ending
     requires { IsFault ending }
     ensures made { IsUnfinished made ending result }
     ensures same { IsOccupied result → result ≡ ending }

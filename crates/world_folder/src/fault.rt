@@ -7,9 +7,8 @@ ghost use Rattle.world_folder.specs.declared.lost.Checks.{Checks as Asked};
 ghost use Rattle.world_folder.specs.Texts.{damaged_names, reason_text};
 
 use crate::lost::{Checks, Finding, Lost, judge};
-use crate::world_file::{IMAGE_A, IMAGE_B, LOG_A, LOG_B};
 use action_log::judge_log;
-use disk_model::FourFiles;
+use disk_model::{FourFiles, IMAGE_A, IMAGE_B, LOG_A, LOG_B};
 use image_files::read_image;
 use recovery::{Recovered, recover};
 use std::alloc::Global;

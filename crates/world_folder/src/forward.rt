@@ -9,7 +9,7 @@ use std::io::{self, ErrorKind, Read};
 /// later page is never older than one of an earlier page.
 const PAGE_BYTES: usize = 4_096;
 
-/// Reads to the end of a reader, or so many bytes of it.
+/// Reads to the end of a reader, but no more than `most` bytes.
 pub fn read_forward<R: Read>(alloc: Global, r: &mut R, most: usize) -> io::Result<Vec<u8>>
     ensures read { IfOk result (λ bytes.
         Consumes (R.remaining r.old) (R.remaining r.new) bytes.items) }

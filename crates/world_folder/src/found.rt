@@ -2,7 +2,7 @@
 ghost use Rattle.std.specs.Prelude.{◌≡◌, Some};
 ghost use Rattle.world_folder.specs.Texts.{world_text, recovered_text};
 
-use crate::world_file::{IMAGE_A, IMAGE_B};
+use disk_model::{IMAGE_A, IMAGE_B};
 use recovery::{Recovered, Slot};
 use std::fmt;
 

@@ -7,7 +7,7 @@ use crate::guard::{GUARD, GUARD_BYTES, Guard, NEW_GUARD};
 use crate::lost::{Checks, OnLoss};
 use crate::opening::{ending_for, opened, path_of};
 use crate::system_folder::OWNER_ALONE;
-use crate::world_file::{IMAGE_A, IMAGE_B, LOG_A, LOG_B};
+use disk_model::{IMAGE_A, IMAGE_B, LOG_A, LOG_B};
 use std::fs::{self, File, Files, OpenOptions};
 use std::io::{self, ErrorKind, Read, Write};
 use std::os::unix::fs::OpenOptionsExt;

@@ -34,7 +34,6 @@ mod system_error;
 mod system_folder;
 mod unfinished;
 mod words_text;
-mod world_file;
 
 pub use checked::{Checked, NotRecovered, recover_checked};
 pub use creating::{create, create_listed, create_of_words, create_zeros};
@@ -64,6 +63,5 @@ pub use opening::{
 pub use reading::{all_read, answered, read_file, read_folder, read_whole};
 pub use system_error::Reason;
 pub use system_folder::SystemFolder;
-pub use unfinished::{MadeFiles, Unfinished, Why};
+pub use unfinished::{Unfinished, Why};
 pub use words_text::{BadWords, Listed};
-pub use world_file::{IMAGE_A, IMAGE_B, LOG_A, LOG_B, Named, WorldFile};

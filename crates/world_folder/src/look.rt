@@ -29,7 +29,7 @@ pub struct Look {
     pub log_b: Option<u64>,
 }
 
-/// Reads so many bytes of a file from its first one on, or all if it has fewer.
+/// Reads the first `most` bytes of a file, or all if it has fewer.
 pub fn read_head<D: Disk>(alloc: Global, disk: &mut D, most: usize) -> Result<Vec<u8>, Refusal>
     ensures head { IsTrue D.honest
         → IfOk result (λ head. head.items ≡ take most (D.content disk.old)) }

@@ -10,8 +10,7 @@ ghost use Rattle.world_folder.specs.Texts.{finding_text, lost_text};
 
 use crate::guard::{Guard, Older};
 use crate::look::{IMAGE_HEAD, SEGMENT_HEAD, read_head};
-use crate::world_file::{IMAGE_A, IMAGE_B, LOG_A, LOG_B};
-use disk_model::{Disk, FourFiles};
+use disk_model::{Disk, FourFiles, IMAGE_A, IMAGE_B, LOG_A, LOG_B};
 use file_format::{CLOSED_GATE, Format, OPEN_GATE, Slot, marked_at};
 use std::alloc::Global;
 use std::fmt;

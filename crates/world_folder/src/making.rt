@@ -16,8 +16,7 @@ ghost use Rattle.world_folder.specs.Making.{HoldsNoOther, OthersOnlyAsked};
 
 use crate::ending::{Ending, Occupied};
 use crate::opening::path_of;
-use crate::world_file::{IMAGE_A, IMAGE_B, LOG_A, LOG_B};
-use disk_model::{Disk, FourFiles};
+use disk_model::{Disk, FourFiles, IMAGE_A, IMAGE_B, LOG_A, LOG_B};
 use file_readers::read_files;
 use image_files::write_words;
 use std::alloc::Global;

@@ -15,8 +15,7 @@ use crate::guard::Guard;
 use crate::locks::LockState;
 use crate::noted::Noted;
 use crate::system_error::error_of;
-use crate::world_file::WorldFile;
-use disk_model::{Disk, FourFiles, ModelFile};
+use disk_model::{Disk, FourFiles, ModelFile, WorldFile};
 use std::alloc::{AllocError, Global};
 use std::fmt::Display;
 use std::io::{self, ErrorKind};
@@ -126,29 +125,11 @@ impl ModelFolder {
         }
     }
 
-    fn bytes_of(&self, file: WorldFile) -> &Vec<u8> {
-        match file {
-            WorldFile::ImageA => &self.bytes.image_a,
-            WorldFile::ImageB => &self.bytes.image_b,
-            WorldFile::LogA => &self.bytes.log_a,
-            WorldFile::LogB => &self.bytes.log_b,
-        }
-    }
-
-    fn is_there(&self, file: WorldFile) -> bool {
-        match file {
-            WorldFile::ImageA => self.there.image_a,
-            WorldFile::ImageB => self.there.image_b,
-            WorldFile::LogA => self.there.log_a,
-            WorldFile::LogB => self.there.log_b,
-        }
-    }
-
     fn copy_of(&self, file: WorldFile) -> io::Result<Vec<u8>> {
-        if !self.is_there(file) {
+        if !*self.there.get(file) {
             return Err(io::Error::from_raw_os_error(libc::ENOENT));
         }
-        Ok(Vec::from_slice(self.alloc, self.bytes_of(file))?)
+        Ok(Vec::from_slice(self.alloc, self.bytes.get(file))?)
     }
 }
 
@@ -196,7 +177,7 @@ impl Folder for ModelFolder {
     ghost identity = { λ disk. disk.identity };
 
     fn look(&mut self, file: WorldFile) -> io::Result<Option<Entry>> {
-        let there = if self.is_there(file) {
+        let there = if *self.there.get(file) {
             Some(entry_of(file))
         } else {
             None
@@ -213,17 +194,12 @@ impl Folder for ModelFolder {
     }
 
     fn make(&mut self, file: WorldFile) -> io::Result<ModelHandle> {
-        if self.is_there(file) {
+        if *self.there.get(file) {
             return Err(io::Error::from_raw_os_error(libc::EEXIST));
         }
         let entry = entry_of(file);
         self.note(Noted::Made(file, entry))?;
-        match file {
-            WorldFile::ImageA => self.there.image_a = true,
-            WorldFile::ImageB => self.there.image_b = true,
-            WorldFile::LogA => self.there.log_a = true,
-            WorldFile::LogB => self.there.log_b = true,
-        }
+        self.there.set(file, true);
         Ok(ModelHandle {
             entry,
             bytes: Vec::new(self.alloc),
@@ -231,25 +207,20 @@ impl Folder for ModelFolder {
     }
 
     fn remove(&mut self, file: WorldFile) -> io::Result<()> {
-        if !self.is_there(file) {
+        if !*self.there.get(file) {
             return Err(io::Error::from_raw_os_error(libc::ENOENT));
         }
         self.note(Noted::Removed(file))?;
-        match file {
-            WorldFile::ImageA => self.there.image_a = false,
-            WorldFile::ImageB => self.there.image_b = false,
-            WorldFile::LogA => self.there.log_a = false,
-            WorldFile::LogB => self.there.log_b = false,
-        }
+        self.there.set(file, false);
         Ok(())
     }
 
     fn open_to_read(&mut self, file: WorldFile, _how: Reading) -> io::Result<ModelDisk> {
-        if !self.is_there(file) {
+        if !*self.there.get(file) {
             self.note(Noted::Unopened(file))?;
             return Err(io::Error::from_raw_os_error(libc::ENOENT));
         }
-        let bytes = Vec::from_slice(self.alloc, self.bytes_of(file))?;
+        let bytes = Vec::from_slice(self.alloc, self.bytes.get(file))?;
         let disk = disk_of(self.alloc, bytes, entry_of(file).identity)?;
         let read = Vec::from_slice(self.alloc, disk.file.now())?;
         self.note(Noted::Read(file, read))?;

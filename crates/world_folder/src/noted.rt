@@ -2,7 +2,7 @@
 use crate::entry::Entry;
 use crate::guard::Guard;
 use crate::locks::LockState;
-use crate::world_file::WorldFile;
+use disk_model::WorldFile;
 
 /// A call of a folder that succeeded, with its answer, or a line that was printed.
 #[derive(Debug, Drop)]

@@ -1,6 +1,6 @@
-ghost use Rattle.std.specs.Prelude.{◌≡◌, ◌∷◌, [], Some, Ok, IsTrue, IfOk, IfErr, OnOk, IsErrAnd};
+ghost use Rattle.std.specs.Prelude.{◌≡◌, ◌∷◌, Some, Ok, IsTrue, IfOk, IfErr, OnOk, IsErrAnd};
 ghost use Rattle.std.specs.Path.{path_buf_bytes, path_join};
-ghost use Rattle.disk_model.specs.FourFiles.{EachFile};
+ghost use Rattle.disk_model.specs.FourFiles.{EachFile, mapped};
 ghost use Rattle.world_folder.specs.Ending.{IsFault, ReportsOf, NamesFile, ReportsFailure};
 ghost use Rattle.world_folder.specs.Completing.{IsOccupied};
 ghost use Rattle.world_folder.specs.Failing.{failure_there, first_failure};
@@ -14,8 +14,7 @@ use crate::folders::{Folder, WorldDisk};
 use crate::own_file::{OwnFile, are_apart, open_own};
 use crate::system_error::Reason;
 use crate::system_folder::SystemFolder;
-use crate::world_file::WorldFile;
-use disk_model::FourFiles;
+use disk_model::{FourFiles, WorldFile};
 use file_disk::FileDisk;
 use std::alloc::{AllocError, Global};
 use std::fs::{File, Files};
@@ -85,7 +84,7 @@ pub fn open_files<F: Folder>(
 }
 
 // Refuses one file under two names, and makes the names durable.
-fn settle<F: Folder>(folder: &mut F, files: &[Option<Identity>; 4]) -> io::Result<()>
+fn settle<F: Folder>(folder: &mut F, files: &FourFiles<Option<Identity>>) -> io::Result<()>
     ensures apart { OnOk result (AreApart files.now) }
     ensures synced { IsTrue F.honest
         → OnOk result (F.history folder.new ≡ NamesSynced ∷ F.history folder.old) }
@@ -133,32 +132,16 @@ fn open_named<F: Folder>(
     opened(alloc, path, file.name(), own)
 }
 
-fn identities_of<D>(files: &FourFiles<OwnFile<D>>) -> [Option<Identity>; 4]
-    ensures { result ≡ Some files.now.image_a.identity ∷ Some files.now.image_b.identity
-        ∷ Some files.now.log_a.identity ∷ Some files.now.log_b.identity ∷ [] }
+fn identities_of<D>(files: &FourFiles<OwnFile<D>>) -> FourFiles<Option<Identity>>
+    ensures { result ≡ mapped (λ own. Some own.identity) files.now }
 {
-    [
-        Some(files.image_a.identity),
-        Some(files.image_b.identity),
-        Some(files.log_a.identity),
-        Some(files.log_b.identity),
-    ]
+    files.map_ref(|own| Some(own.identity))
 }
 
 fn disks_of<D>(files: FourFiles<OwnFile<D>>) -> FourFiles<D>
-    ensures { result ≡ record {
-      image_a = files.image_a.disk;
-      image_b = files.image_b.disk;
-      log_a = files.log_a.disk;
-      log_b = files.log_b.disk;
-    } }
+    ensures { result ≡ mapped (λ own. own.disk) files }
 {
-    FourFiles {
-        image_a: files.image_a.disk,
-        image_b: files.image_b.disk,
-        log_a: files.log_a.disk,
-        log_b: files.log_b.disk,
-    }
+    files.map(|OwnFile { disk, .. }| disk)
 }
 
 /// The value that the system gave for a file, or how the program ends if it gave an error.
@@ -199,19 +182,11 @@ pub fn path_of(alloc: Global, folder: &str, name: &str) -> Result<PathBuf, Alloc
 /// How the program ends if a call of one of the files failed: the first one is named.
 pub fn failure_of<D: WorldDisk + Drop>(alloc: Global, folder: &str, files: FourFiles<D>) -> Ending
     ensures first { IsTrue D.honest
-        → ReportsFailure folder.now
-        (first_failure (D.failure files.image_a) (D.failure files.image_b)
-        (D.failure files.log_a) (D.failure files.log_b)) result }
+        → ReportsFailure folder.now (first_failure (mapped D.failure files)) result }
     ensures other { ¬ IsOccupied result }
     ensures fault { IsFault result }
 {
-    let files = FourFiles {
-        image_a: Some(files.image_a),
-        image_b: Some(files.image_b),
-        log_a: Some(files.log_a),
-        log_b: Some(files.log_b),
-    };
-    failure_of_present(alloc, folder, files)
+    failure_of_present(alloc, folder, files.map(|file| Some(file)))
 }
 
 /// The same of those files that are there.
@@ -221,9 +196,8 @@ pub fn failure_of_present<D: WorldDisk + Drop>(
     files: FourFiles<Option<D>>,
 ) -> Ending
     ensures first { IsTrue D.honest
-        → ReportsFailure folder.now (first_failure (failure_there D.failure files.image_a)
-        (failure_there D.failure files.image_b) (failure_there D.failure files.log_a)
-        (failure_there D.failure files.log_b)) result }
+        → ReportsFailure folder.now
+        (first_failure (mapped (failure_there D.failure) files)) result }
     ensures other { ¬ IsOccupied result }
     ensures fault { IsFault result }
 {
@@ -239,9 +213,8 @@ pub fn failure_of_present<D: WorldDisk + Drop>(
 
 // The first file that failed, and why.
 fn first_failure<D: WorldDisk>(files: &mut FourFiles<Option<D>>) -> Option<(WorldFile, io::Error)>
-    ensures { IsTrue D.honest → result ≡ first_failure (failure_there D.failure files.old.image_a)
-        (failure_there D.failure files.old.image_b) (failure_there D.failure files.old.log_a)
-        (failure_there D.failure files.old.log_b) }
+    ensures { IsTrue D.honest
+        → result ≡ first_failure (mapped (failure_there D.failure) files.old) }
 {
     if let Some(error) = failure_in(&mut files.image_a) {
         return Some((WorldFile::ImageA, error));

@@ -7,7 +7,7 @@ ghost use Rattle.world_folder.specs.OwnFile.{IsApart, AreApart, IsOwn, IsOnlyFil
 
 use crate::entry::{Entry, FileKind, Identity};
 use crate::folders::Folder;
-use crate::world_file::WorldFile;
+use disk_model::{FourFiles, WorldFile};
 use std::io;
 
 /// The reason to refuse a folder, a pipe or a device.
@@ -124,10 +124,15 @@ pub fn take_own<F: Folder>(
 }
 
 /// Refuses one file under two of the four names. A file that isn't there has no number.
-pub fn are_apart(files: &[Option<Identity>; 4]) -> io::Result<()>
+pub fn are_apart(files: &FourFiles<Option<Identity>>) -> io::Result<()>
     ensures { IsOk result → AreApart files.now }
 {
-    let [a, b, c, d] = *files;
+    let FourFiles {
+        image_a: a,
+        image_b: b,
+        log_a: c,
+        log_b: d,
+    } = *files;
     if is_same(a, b)
         || is_same(a, c)
         || is_same(a, d)

@@ -1,7 +1,7 @@
 //! The files of a folder that are there before a world is made in it.
-ghost use Rattle.std.specs.Prelude.{◌≡◌, ◌∷◌, [], option_map, IsTrue, IfOk, IfErr, IfSome};
+ghost use Rattle.std.specs.Prelude.{◌≡◌, option_map, IsTrue, IfOk, IfErr, IfSome};
 ghost use Rattle.disk_model.specs.Disk.{Only};
-ghost use Rattle.disk_model.specs.FourFiles.{EachFile};
+ghost use Rattle.disk_model.specs.FourFiles.{EachFile, mapped};
 ghost use Rattle.world_folder.specs.Ending.{IsFault, NamesFile};
 ghost use Rattle.world_folder.specs.Completing.{AreFound, EachSynced, IsOccupied};
 ghost use Rattle.world_folder.specs.OwnFile.{AreLookedFor, IsOwnIfThere};
@@ -11,8 +11,7 @@ use crate::entry::Identity;
 use crate::folders::Folder;
 use crate::opening::opened;
 use crate::own_file::{OwnFile, are_apart, find_own};
-use crate::world_file::WorldFile;
-use disk_model::FourFiles;
+use disk_model::{FourFiles, WorldFile};
 use std::alloc::Global;
 
 /// Opens those files of a folder that are there, to write them, with the refusals and the lock of
@@ -83,50 +82,20 @@ fn find_named<F: Folder>(
     opened(alloc, path, file.name(), found)
 }
 
-fn identities_of<D>(files: &FourFiles<Option<OwnFile<D>>>) -> [Option<Identity>; 4]
-    ensures { result ≡ option_map (λ own. own.identity) files.now.image_a ∷ option_map
-        (λ own. own.identity) files.now.image_b
-        ∷ option_map (λ own. own.identity) files.now.log_a ∷ option_map
-        (λ own. own.identity) files.now.log_b ∷ [] }
+fn identities_of<D>(files: &FourFiles<Option<OwnFile<D>>>) -> FourFiles<Option<Identity>>
+    ensures { result ≡ mapped (option_map (λ own. own.identity)) files.now }
 {
-    [
-        identity_of(&files.image_a),
-        identity_of(&files.image_b),
-        identity_of(&files.log_a),
-        identity_of(&files.log_b),
-    ]
-}
-
-fn identity_of<D>(file: &Option<OwnFile<D>>) -> Option<Identity>
-    ensures { result ≡ option_map (λ own. own.identity) file.now }
-{
-    match file {
+    files.map_ref(|file| match file {
         Some(own) => Some(own.identity),
         None => None,
-    }
+    })
 }
 
 fn disks_of<D>(files: FourFiles<Option<OwnFile<D>>>) -> FourFiles<Option<D>>
-    ensures { result ≡ record {
-      image_a = option_map (λ own. own.disk) files.image_a;
-      image_b = option_map (λ own. own.disk) files.image_b;
-      log_a = option_map (λ own. own.disk) files.log_a;
-      log_b = option_map (λ own. own.disk) files.log_b;
-    } }
+    ensures { result ≡ mapped (option_map (λ own. own.disk)) files }
 {
-    FourFiles {
-        image_a: disk_of(files.image_a),
-        image_b: disk_of(files.image_b),
-        log_a: disk_of(files.log_a),
-        log_b: disk_of(files.log_b),
-    }
-}
-
-fn disk_of<D>(file: Option<OwnFile<D>>) -> Option<D>
-    ensures { result ≡ option_map (λ own. own.disk) file }
-{
-    match file {
+    files.map(|file| match file {
         Some(OwnFile { disk, .. }) => Some(disk),
         None => None,
-    }
+    })
 }

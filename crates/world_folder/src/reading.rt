@@ -3,15 +3,14 @@
 ghost use Rattle.std.specs.Prelude.{◌≡◌, Ok, IsTrue, IfOk, IfErr, OnErr, IfSome, IsErr, IsErrAnd};
 ghost use Rattle.world_folder.specs.Fault.{AreRead};
 ghost use Rattle.world_folder.specs.Ending.{IsFault, ReportsOfFirst};
-ghost use Rattle.world_folder.specs.ReadIn.{IsFileRead, IsReadIn, AreReadIn};
-ghost use Rattle.world_folder.specs.WorldFile.{AreNamed};
+ghost use Rattle.world_folder.specs.History.{AreInTurn};
+ghost use Rattle.world_folder.specs.ReadIn.{IsFileRead, IsReadIn};
 
 use crate::ending::Ending;
 use crate::folders::{Folder, Reading, WorldDisk};
 use crate::opening::opened;
 use crate::system_error::error_of;
-use crate::world_file::{Named, WorldFile};
-use disk_model::{Disk, FourFiles};
+use disk_model::{Disk, FourFiles, IMAGE_A, IMAGE_B, LOG_A, LOG_B, WorldFile};
 use file_readers::{read_image_file, read_segment_file};
 use std::alloc::Global;
 use std::io;
@@ -19,34 +18,15 @@ use world_actions::Refusal;
 
 /// The bytes of each file of a folder that its format reads, or why it can't be read. Each is
 /// opened for reading only, and nothing is locked.
-pub fn read_folder<F: Folder>(
-    alloc: Global,
-    folder: &mut F,
-) -> FourFiles<Named<io::Result<Vec<u8>>>>
-    ensures named { AreNamed result }
-    ensures read { IsTrue F.honest → IsTrue F.File.honest
-        → AreReadIn result (F.history folder.old) (F.history folder.new) }
+pub fn read_folder<F: Folder>(alloc: Global, folder: &mut F) -> FourFiles<io::Result<Vec<u8>>>
+    ensures { IsTrue F.honest → IsTrue F.File.honest
+        → AreInTurn IsReadIn result (F.history folder.old) (F.history folder.new) }
 {
     FourFiles {
-        image_a: read_named(alloc, folder, WorldFile::ImageA),
-        image_b: read_named(alloc, folder, WorldFile::ImageB),
-        log_a: read_named(alloc, folder, WorldFile::LogA),
-        log_b: read_named(alloc, folder, WorldFile::LogB),
-    }
-}
-
-fn read_named<F: Folder>(
-    alloc: Global,
-    folder: &mut F,
-    file: WorldFile,
-) -> Named<io::Result<Vec<u8>>>
-    ensures named { result.file ≡ file }
-    ensures read { IsTrue F.honest → IsTrue F.File.honest
-        → IsReadIn file result.value (F.history folder.old) (F.history folder.new) }
-{
-    Named {
-        file,
-        value: read_file(alloc, folder, file),
+        image_a: read_file(alloc, folder, WorldFile::ImageA),
+        image_b: read_file(alloc, folder, WorldFile::ImageB),
+        log_a: read_file(alloc, folder, WorldFile::LogA),
+        log_b: read_file(alloc, folder, WorldFile::LogB),
     }
 }
 
@@ -94,16 +74,16 @@ pub fn answered<D: WorldDisk, T>(disk: &mut D, answer: Result<T, Refusal>) -> io
 pub fn all_read(
     alloc: Global,
     folder: &str,
-    read: FourFiles<Named<io::Result<Vec<u8>>>>,
+    read: FourFiles<io::Result<Vec<u8>>>,
 ) -> Result<FourFiles<Vec<u8>>, Ending>
     ensures read { IfOk result (AreRead read) }
     ensures unread { IfErr result (ReportsOfFirst folder.now read) }
     ensures fault { IfErr result IsFault }
 {
     Ok(FourFiles {
-        image_a: opened(alloc, folder, read.image_a.file.name(), read.image_a.value)?,
-        image_b: opened(alloc, folder, read.image_b.file.name(), read.image_b.value)?,
-        log_a: opened(alloc, folder, read.log_a.file.name(), read.log_a.value)?,
-        log_b: opened(alloc, folder, read.log_b.file.name(), read.log_b.value)?,
+        image_a: opened(alloc, folder, IMAGE_A, read.image_a)?,
+        image_b: opened(alloc, folder, IMAGE_B, read.image_b)?,
+        log_a: opened(alloc, folder, LOG_A, read.log_a)?,
+        log_b: opened(alloc, folder, LOG_B, read.log_b)?,
     })
 }

@@ -72,7 +72,7 @@ pub fn refusal_of(error: &io::Error) -> Refusal
     }
 }
 
-/// True if memory, room on a disk or a thing of the system is wanting, which may be there at
+/// True if memory, room on a disk or another resource of the system is short, which may be there at
 /// another try.
 pub fn is_shortage(error: &io::Error) -> bool
     ensures { IsTrue result ↔ IsShortage error.now }

@@ -11,7 +11,7 @@ use crate::guard_file::{self, remove_guard};
 use crate::locks::{self, LockState};
 use crate::opening::ABOVE;
 use crate::own_file::NOT_REGULAR;
-use crate::world_file::WorldFile;
+use disk_model::WorldFile;
 use file_disk::FileDisk;
 use std::alloc::AllocError;
 use std::fmt::Display;

@@ -1,6 +1,6 @@
 //! A world that wasn't made, and the files of it that were.
 use crate::opening::Unreadable;
-use crate::world_file::{IMAGE_A, IMAGE_B, LOG_A, LOG_B, WorldFile};
+use disk_model::{FourFiles, IMAGE_A, IMAGE_B, LOG_A, LOG_B};
 use std::{fmt, io};
 use world_actions::Refusal;
 
@@ -28,72 +28,10 @@ impl Why {
     }
 }
 
-/// Which files were made.
-#[derive(Clone, Copy, Debug, PartialEq, Eq)]
-pub struct MadeFiles {
-    pub image_a: bool,
-    pub image_b: bool,
-    pub log_a: bool,
-    pub log_b: bool,
-}
-
-impl MadeFiles {
-    ghost use Rattle.std.specs.Prelude.{◌≡◌};
-    ghost use Rattle.world_folder.specs.Completing.{with_made};
-    ghost use Rattle.world_folder.specs.Left.{has_made, none_made, without};
-
-    pub fn none() -> Self
-        ensures { result ≡ none_made }
-    {
-        MadeFiles {
-            image_a: false,
-            image_b: false,
-            log_a: false,
-            log_b: false,
-        }
-    }
-
-    /// Notes that this file was made.
-    pub fn note(&mut self, file: WorldFile)
-        ensures { self.new ≡ with_made file self.old }
-    {
-        match file {
-            WorldFile::ImageA => self.image_a = true,
-            WorldFile::ImageB => self.image_b = true,
-            WorldFile::LogA => self.log_a = true,
-            WorldFile::LogB => self.log_b = true,
-        }
-    }
-
-    /// Notes that this file was removed again.
-    pub fn forget(&mut self, file: WorldFile)
-        ensures { self.new ≡ without file self.old }
-    {
-        match file {
-            WorldFile::ImageA => self.image_a = false,
-            WorldFile::ImageB => self.image_b = false,
-            WorldFile::LogA => self.log_a = false,
-            WorldFile::LogB => self.log_b = false,
-        }
-    }
-
-    /// True if this file was made.
-    pub fn has(&self, file: WorldFile) -> bool
-        ensures { result ≡ has_made file self.now }
-    {
-        match file {
-            WorldFile::ImageA => self.image_a,
-            WorldFile::ImageB => self.image_b,
-            WorldFile::LogA => self.log_a,
-            WorldFile::LogB => self.log_b,
-        }
-    }
-}
-
 /// Why a world wasn't made, and which files were. They stay, and may recover.
 #[derive(Debug, Drop)]
 pub struct Unfinished {
-    pub made: MadeFiles,
+    pub made: FourFiles<bool>,
     pub why: Why,
 }
 

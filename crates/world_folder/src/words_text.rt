@@ -28,7 +28,7 @@ pub enum BadWords {
     TooMany,
     /// Its last line has no newline.
     Cut,
-    /// It lists so many, and another number was asked for.
+    /// It lists this number of words, and another one was asked for.
     Count(u64),
     /// This line, counted from 1, has something else.
     Line(u64),

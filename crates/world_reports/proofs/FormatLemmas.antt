@@ -1,9 +1,8 @@
 -- The format by the mark of an open file.
-use Rattle.std.proofs.Common.{◌≡◌, ℕ, ◌^◌, ◌<◌, ◌≤◌, List, ◌++◌, false, Some, length, drop, refl, ◌∙◌, ap, arith}
+use Rattle.std.proofs.Common.{◌≡◌, ℕ, ◌<◌, ◌≤◌, List, false, Some, length, drop, refl, ◌∙◌, ap, arith}
 use Rattle.std.specs.Prelude.{nat_lt}
 use Rattle.std.proofs.lemmas.Bool.Decides.{nat_tests}
 use Rattle.file_format.specs.declared.format.Format.{Format}
-use Rattle.file_format.specs.declared.format.Format.TheVariants.{First, Second}
 use Rattle.file_format.specs.Number.{number_of}
 use Rattle.file_format.specs.Format.{marked_of, unmarked, format_in}
 use Rattle.file_format.proofs.FormatLemmas.{unmarked-marked_of}

@@ -1,4 +1,3 @@
 pub mod FormatLemmas
 pub mod LookLemmas
-pub mod CopyLemmas
 pub mod LeftLemmas

@@ -11,8 +11,8 @@ use Rattle.world_folder.specs.declared.ending.Ending.{Ending}
 use Rattle.world_folder.specs.declared.entry.Entry.{Entry}
 use Rattle.world_folder.specs.declared.found.WorldReport.{WorldReport}
 use Rattle.world_folder.specs.declared.guard.Guard.{Guard}
-use Rattle.world_folder.specs.declared.world_file.WorldFile.{WorldFile}
-use Rattle.world_folder.specs.declared.world_file.WorldFile.TheVariants.{ImageA, ImageB, LogA, LogB}
+use Rattle.disk_model.specs.declared.world_file.WorldFile.{WorldFile}
+use Rattle.disk_model.specs.declared.world_file.WorldFile.TheVariants.{ImageA, ImageB, LogA, LogB}
 use Rattle.world_folder.specs.Fault.{Files}
 use Rattle.world_folder.specs.declared.lost.Checks.{Checks}
 use Rattle.world_folder.specs.declared.lost.OnLoss.{OnLoss}

@@ -10,7 +10,7 @@ use Rattle.salvage.specs.declared.salvaged.Salvaged.{Salvaged}
 use Rattle.world_folder.specs.Fault.{Files}
 use Rattle.world_folder.specs.declared.ending.Ending.{Ending}
 use Rattle.world_folder.specs.declared.ending.Ending.TheVariants.{Ran, MayBeOlder}
-use Rattle.world_folder.specs.declared.world_file.TheConstants.{IMAGE_A, IMAGE_B, LOG_A, LOG_B}
+use Rattle.disk_model.specs.declared.world_file.TheConstants.{IMAGE_A, IMAGE_B, LOG_A, LOG_B}
 use Rattle.world_reports.specs.declared.dropped.Dropped.{Dropped as DroppedFiles}
 
 -- an image that is empty beside one of a tick above 0: by then both were written once

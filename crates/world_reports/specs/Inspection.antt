@@ -10,19 +10,19 @@ use Rattle.world_folder.specs.Fault.{AreJudged, Files, AreRead, Stands}
 use Rattle.world_folder.specs.declared.ending.Ending.{Ending}
 use Rattle.world_folder.specs.declared.lost.Finding.{Finding}
 use Rattle.world_folder.specs.declared.lost.Checks.{Checks}
-use Rattle.world_folder.specs.History.{Act, Printed, IsPrinted}
+use Rattle.world_folder.specs.History.{Act, Printed, IsPrinted, AreInTurn}
 use Rattle.world_reports.specs.Looking.{IsSeen, length_or}
 use Rattle.world_reports.specs.Reports.{NamesFailed, with_finding}
 use Rattle.world_folder.specs.Texts.{recovered_text}
 use Rattle.world_reports.specs.Texts.{reported_text, counted_text}
 use Rattle.world_reports.specs.FileReports.{IsImageReport, IsLogReport}
-use Rattle.world_folder.specs.WorldFile.{name_of}
+use Rattle.disk_model.specs.FourFiles.{name_of}
+use Rattle.disk_model.specs.declared.four_files.FourFiles.{FourFiles}
 use Rattle.world_reports.specs.declared.inspecting.FileLine.{FileLine}
 use Rattle.world_reports.specs.declared.file_reports.FileReport.{FileReport}
 use Rattle.world_reports.specs.declared.looking.Seen.{Seen}
-use Rattle.world_folder.specs.declared.world_file.Named.{Named}
-use Rattle.world_folder.specs.declared.world_file.WorldFile.{WorldFile}
-use Rattle.world_folder.specs.declared.world_file.WorldFile.TheVariants.{ImageA, ImageB, LogA, LogB}
+use Rattle.disk_model.specs.declared.world_file.WorldFile.{WorldFile}
+use Rattle.disk_model.specs.declared.world_file.WorldFile.TheVariants.{ImageA, ImageB, LogA, LogB}
 
 -- the text of the line on a file, which isn't stated if it has an error of the system
 abbrev pub line_text : WorldFile → Result FileReport Error → (length : ℕ) → Option (List ℕ)
@@ -48,26 +48,14 @@ IsLineOf file (Ok bytes) known line =
     × IsFileReport file bytes.items reported × (line.length ≡ length_or known bytes.items)
 IsLineOf file (Err error) known line = (line.file ≡ file) × (line.reported ≡ Err error)
 
-abbrev pub IsFileLine : Named (Result (Vec ℕ Global) Error) → Option ℕ → FileLine → Type 0
-IsFileLine named known line = IsLineOf named.file named.value known line
-
 -- the line on each file was printed, image.a first
 pub record AreFilesReported (seen : Seen) (before after : List Act) : Type 0 where
-  pub image_a : FileLine
-  pub image_b : FileLine
-  pub log_a : FileLine
-  pub log_b : FileLine
-  pub is_image_a : IsFileLine seen.files.image_a seen.lengths.image_a image_a
-  pub is_image_b : IsFileLine seen.files.image_b seen.lengths.image_b image_b
-  pub is_log_a : IsFileLine seen.files.log_a seen.lengths.log_a log_a
-  pub is_log_b : IsFileLine seen.files.log_b seen.lengths.log_b log_b
-  pub with_image_a : List Act
-  pub with_image_b : List Act
-  pub with_log_a : List Act
-  pub image_a_printed : IsPrinted (file_line_text image_a) before with_image_a
-  pub image_b_printed : IsPrinted (file_line_text image_b) with_image_a with_image_b
-  pub log_a_printed : IsPrinted (file_line_text log_a) with_image_b with_log_a
-  pub log_b_printed : IsPrinted (file_line_text log_b) with_log_a after
+  pub lines : FourFiles FileLine
+  pub image_a : IsLineOf ImageA seen.files.image_a seen.lengths.image_a lines.image_a
+  pub image_b : IsLineOf ImageB seen.files.image_b seen.lengths.image_b lines.image_b
+  pub log_a : IsLineOf LogA seen.files.log_a seen.lengths.log_a lines.log_a
+  pub log_b : IsLineOf LogB seen.files.log_b seen.lengths.log_b lines.log_b
+  pub printed : AreInTurn (λ _ line. IsPrinted (file_line_text line)) lines before after
 
 -- all words in decimal, one space between
 abbrev pub words_text : List ℕ → List ℕ

@@ -1,14 +1,15 @@
 -- A look at the files of a folder.
 use Rattle.std.specs.Prelude.{◌≡◌, ◌⊎◌, ℕ, List, ◌∷◌, length, Option, Some, None}
 use Rattle.disk_model.specs.declared.four_files.FourFiles.{FourFiles}
+use Rattle.disk_model.specs.FourFiles.{EachFile}
 use Rattle.world_reports.specs.Copying.{IsCopied}
 use Rattle.world_folder.specs.Fault.{AreJudged, AreRead, Files, Stands}
 use Rattle.world_folder.specs.History.{Act, Measured, AreInTurn}
-use Rattle.world_folder.specs.ReadIn.{AreReadIn}
+use Rattle.world_folder.specs.ReadIn.{IsReadIn}
 use Rattle.world_folder.specs.declared.lost.Checks.{Checks}
 use Rattle.world_reports.specs.declared.looking.Seen.{Seen}
 use Rattle.world_reports.specs.declared.looking.SeenWorld.{SeenWorld}
-use Rattle.world_folder.specs.declared.world_file.WorldFile.{WorldFile}
+use Rattle.disk_model.specs.declared.world_file.WorldFile.{WorldFile}
 
 -- how long a file is, by its own name, if it can be looked at
 abbrev pub IsMeasured : (file : WorldFile) → Option ℕ → (before after : List Act) → Type 0
@@ -18,17 +19,10 @@ IsMeasured file (Some length) before after = after ≡ Measured file length ∷ 
 abbrev pub AreMeasured : FourFiles (Option ℕ) → (before after : List Act) → Type 0
 AreMeasured lengths before after = AreInTurn IsMeasured lengths before after
 
--- these lengths are known
-pub record AreKnown (lengths : FourFiles ℕ) (known : FourFiles (Option ℕ)) : Type 0 where
-  pub image_a : known.image_a ≡ Some lengths.image_a
-  pub image_b : known.image_b ≡ Some lengths.image_b
-  pub log_a : known.log_a ≡ Some lengths.log_a
-  pub log_b : known.log_b ≡ Some lengths.log_b
-
 -- each file was read by itself, and then measured
 pub record AreReadAndMeasured (seen : Seen) (before after : List Act) : Type 0 where
   pub read : List Act
-  pub files : AreReadIn seen.files before read
+  pub files : AreInTurn IsReadIn seen.files before read
   pub lengths : AreMeasured seen.lengths read after
 
 -- a copy of both images and the log was seen, with the lengths of the files, and no read failed
@@ -37,7 +31,7 @@ pub record IsCopySeen (seen : Seen) (before after : List Act) : Type 0 where
   pub lengths : FourFiles ℕ
   pub copy : IsCopied copied lengths before after
   pub are_read : AreRead seen.files copied
-  pub are_known : AreKnown lengths seen.lengths
+  pub are_known : EachFile lengths seen.lengths (λ length known. known ≡ Some length)
   pub none_failed : seen.failed ≡ None
 
 -- a copy was seen; or, once none could be taken, each file by itself

@@ -27,8 +27,8 @@ use Rattle.world_reports.specs.declared.two_tries.TwoTries.{TwoTries}
 use Rattle.world_reports.specs.Texts.{image_part_text, log_part_text, salvaged_text}
 use Rattle.world_reports.specs.Verified.{IsVerified}
 use Rattle.world_folder.specs.declared.found.WorldReport.{WorldReport}
-use Rattle.world_folder.specs.declared.world_file.TheConstants.{IMAGE_A, IMAGE_B, LOG_A, LOG_B}
-use Rattle.world_folder.specs.declared.world_file.WorldFile.{WorldFile}
+use Rattle.disk_model.specs.declared.world_file.TheConstants.{IMAGE_A, IMAGE_B, LOG_A, LOG_B}
+use Rattle.disk_model.specs.declared.world_file.WorldFile.{WorldFile}
 
 -- which files can't be read
 abbrev pub lost_of : FourFiles TwoTries → FourFiles Bool

@@ -9,7 +9,7 @@ use Rattle.world_reports.specs.declared.served.PartReport.TheVariants as part
 use Rattle.world_reports.specs.declared.served.ServerReport.{ServerReport}
 use Rattle.world_reports.specs.declared.served.ServerReport.TheVariants.{Running, Missing, Unknown}
 use Rattle.world_reports.specs.declared.served.ServerReport.TheVariants.{Replaced}
-use Rattle.world_folder.specs.declared.world_file.WorldFile.TheVariants.{ImageA, ImageB, LogA}
+use Rattle.disk_model.specs.declared.world_file.WorldFile.TheVariants.{ImageA, ImageB, LogA}
 
 -- each of three locks was asked for by the name of its own file, that of image.a last, and that of
 -- the folder before and after them

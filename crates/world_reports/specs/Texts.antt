@@ -12,7 +12,7 @@ use Rattle.world_reports.specs.declared.served.PartReport.TheVariants as part
 use Rattle.world_reports.specs.declared.served.ServerReport.{ServerReport}
 use Rattle.world_reports.specs.declared.served.ServerReport.TheVariants as server
 use Rattle.world_folder.specs.declared.guard.Guard.{Guard}
-use Rattle.world_folder.specs.declared.world_file.TheConstants.{IMAGE_A, IMAGE_B, LOG_A, LOG_B}
+use Rattle.disk_model.specs.declared.world_file.TheConstants.{IMAGE_A, IMAGE_B, LOG_A, LOG_B}
 use Rattle.world_reports.specs.FileReports.{format_number}
 use Rattle.salvage.specs.declared.image_part.ImagePart.{ImagePart}
 use Rattle.salvage.specs.declared.image_part.ImagePart.TheVariants as image_part

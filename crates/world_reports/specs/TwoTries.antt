@@ -7,7 +7,7 @@ use Rattle.std.specs.declared.io.ErrorKind.TheVariants.{NotFound}
 use Rattle.disk_model.specs.declared.four_files.FourFiles.{FourFiles}
 use Rattle.world_folder.specs.History.{Act, AreInTurn}
 use Rattle.world_folder.specs.ReadIn.{IsReadIn}
-use Rattle.world_folder.specs.declared.world_file.WorldFile.{WorldFile}
+use Rattle.disk_model.specs.declared.world_file.WorldFile.{WorldFile}
 use Rattle.world_reports.specs.declared.two_tries.TwoTries.{TwoTries}
 
 -- the file isn't there, or its device can't read it: the error is of the number EIO

@@ -12,7 +12,7 @@ use crate::looking::{SeenWorld, look_for_world};
 use crate::recovering::{warn_of, warn_of_failed};
 use crate::taking_back::taken_back;
 use crate::verified::{BackedUp, verify};
-use disk_model::{Disk, FourFiles};
+use disk_model::{Disk, FourFiles, WorldFile};
 use file_format::CLOSED_GATE;
 use recovery::Slot;
 use std::alloc::Global;
@@ -21,8 +21,8 @@ use std::time::Clock;
 use std::{fmt, io};
 use world_actions::Refusal;
 use world_folder::{
-    Checks, Ending, Filled, Folder, GUARD, Guard, Inside, MadeFiles, OnLoss, Reading, SystemFolder,
-    WorldFile, answered, opened, path_of, sync_names,
+    Checks, Ending, Filled, Folder, GUARD, Guard, Inside, OnLoss, Reading, SystemFolder, answered,
+    opened, path_of, sync_names,
 };
 
 /// Copies the world of a folder of the system into an empty one, as `copy_with_guard` does.
@@ -91,7 +91,7 @@ pub fn copy_into<F: Folder, T: Folder>(
 {
     look_for_room(alloc, path, into, to)?;
     let seen = look_for_world(alloc, from, path, Reading::Cached, checks)?;
-    let mut made = MadeFiles::none();
+    let mut made = FourFiles::each(false);
     match copy_seen(alloc, into, to, seen, checks.guard, &mut made) {
         Ok(done) => Ok(done),
         Err(ending) => Err(taken_back(alloc, into, to, made, ending)),
@@ -105,7 +105,7 @@ fn copy_seen<T: Folder>(
     to: &str,
     seen: SeenWorld,
     guard: Option<Guard>,
-    made: &mut MadeFiles,
+    made: &mut FourFiles<bool>,
 ) -> Result<(FourFiles<T::File>, Ending), Ending>
     ensures copied { IsTrue T.honest → IsTrue T.File.honest → IfOk result (λ done.
         IsCopyMade T.File.content T.File.may_leave seen guard done.0 done.1 (T.history into.old)
@@ -231,7 +231,7 @@ pub fn write_files<F: Folder>(
     to: &str,
     files: &FourFiles<Vec<u8>>,
     newest: Slot,
-    made: &mut MadeFiles,
+    made: &mut FourFiles<bool>,
 ) -> Result<FourFiles<F::File>, Ending>
     ensures written { IsTrue F.honest → IsTrue F.File.honest → IfOk result (λ written.
         AreWritten F.File.content F.File.may_leave newest files.now written
@@ -259,7 +259,7 @@ fn write_images<F: Folder>(
     to: &str,
     files: &FourFiles<Vec<u8>>,
     newest: Slot,
-    made: &mut MadeFiles,
+    made: &mut FourFiles<bool>,
 ) -> Result<(F::File, F::File), Ending>
     ensures written { IsTrue F.honest → IsTrue F.File.honest → IfOk result (λ made.
         AreImagesWritten F.File.content F.File.may_leave newest files.now made.0 made.1
@@ -290,7 +290,7 @@ pub fn write_one<F: Folder>(
     to: &str,
     file: WorldFile,
     bytes: &[u8],
-    made: &mut MadeFiles,
+    made: &mut FourFiles<bool>,
 ) -> Result<F::File, Ending>
     ensures written { IsTrue F.honest → IsTrue F.File.honest → IfOk result (λ disk.
         IsWritten F.File.content F.File.may_leave file bytes.now disk
@@ -309,7 +309,7 @@ fn write_file<F: Folder>(
     into: &mut F,
     file: WorldFile,
     bytes: &[u8],
-    made: &mut MadeFiles,
+    made: &mut FourFiles<bool>,
 ) -> io::Result<F::File>
     ensures written { IsTrue F.honest → IsTrue F.File.honest → IfOk result (λ disk.
         IsWritten F.File.content F.File.may_leave file bytes.now disk
@@ -318,7 +318,7 @@ fn write_file<F: Folder>(
         → Leaves made.old (F.history into.old) → Leaves made.new (F.history into.new) }
 {
     let handle = into.make(file)?;
-    made.note(file);
+    made.set(file, true);
     let mut disk = into.take(handle)?;
     let written = write_bytes(&mut disk, bytes);
     answered(&mut disk, written)?;

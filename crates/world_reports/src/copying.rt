@@ -1,16 +1,17 @@
 //! A copy of a world's files that is taken while a server writes them.
 ghost use Rattle.std.specs.Prelude.{◌≡◌, ◌∷◌, IsTrue, IfOk, IfErr};
-ghost use Rattle.world_reports.specs.Copying.{IsCopied, IsCopyOf, IsNotCopied, AreSameContents};
+ghost use Rattle.world_reports.specs.Copying.{IsCopied, IsCopyOf, IsNotCopied};
+ghost use Rattle.disk_model.specs.FourFiles.{mapped};
 ghost use Rattle.world_reports.specs.Copying.{reads};
 ghost use Rattle.world_folder.specs.Ending.{IsFault, NamesFile};
 ghost use Rattle.world_folder.specs.History.{Read};
 ghost use Rattle.world_reports.specs.Tried.{IsTriedOf};
 
 use crate::looks::{Alike, Before};
-use disk_model::FourFiles;
+use disk_model::{FourFiles, WorldFile};
 use std::alloc::Global;
 use std::io;
-use world_folder::{Ending, Folder, Reading, WorldDisk, WorldFile, ending_for, opened};
+use world_folder::{Ending, Folder, Reading, WorldDisk, ending_for, opened};
 
 /// How often a copy is begun anew.
 const TRIES: u32 = 1_000;
@@ -74,7 +75,7 @@ fn copy_from<F: Folder>(
     source: &mut Source<'_, F::File>,
 ) -> Result<Copied, NotCopied>
     ensures copied { IsTrue F.File.honest → IfOk result (λ copied.
-        IsCopyOf F.File.content source.old.files copied.files copied.lengths) }
+        IsCopyOf (mapped F.File.content source.old.files) copied.files copied.lengths) }
     ensures history { IsTrue F.honest → F.history folder.new ≡ F.history folder.old }
     ensures not { IfErr result IsNotCopied }
 {
@@ -109,9 +110,8 @@ fn open_source<'a, F: Folder>(
     how: Reading,
 ) -> Result<Source<'a, F::File>, Ending>
     ensures opened { IsTrue F.honest
-        → IfOk result (λ source. F.history folder.new ≡ reads (F.File.content source.files.image_a)
-        (F.File.content source.files.image_b) (F.File.content source.files.log_a)
-        (F.File.content source.files.log_b) (F.history folder.old)) }
+        → IfOk result (λ source. F.history folder.new ≡ reads
+        (mapped F.File.content source.files) (F.history folder.old)) }
     ensures fault { IfErr result IsFault }
 {
     let files = FourFiles {
@@ -153,7 +153,8 @@ enum Tried {
 fn try_copy<D: WorldDisk>(alloc: Global, source: &mut Source<'_, D>) -> Result<Tried, Ending>
     ensures copied { IsTrue D.honest → IfOk result (IsTriedOf D.content source.old.files) }
     ensures kept { IsTrue D.honest
-        → IfOk result (λ _. AreSameContents D.content source.old.files source.new.files) }
+        → IfOk result (λ _.
+        mapped D.content source.new.files ≡ mapped D.content source.old.files) }
     ensures fault { IfErr result IsFault }
 {
     let Some(before) = Before::look(alloc, source)? else {

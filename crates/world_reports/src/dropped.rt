@@ -3,10 +3,10 @@ ghost use Rattle.std.specs.Prelude.{◌≡◌, Some};
 ghost use Rattle.world_reports.specs.Dropped.{dropped_text, image_dropped, log_dropped};
 ghost use Rattle.world_reports.specs.Dropped.{name_after};
 
-use disk_model::FourFiles;
+use disk_model::{FourFiles, IMAGE_A, IMAGE_B, LOG_A, LOG_B};
 use salvage::{ImagePart, LogPart, Salvaged};
 use std::fmt;
-use world_folder::{Ending, IMAGE_A, IMAGE_B, LOG_A, LOG_B};
+use world_folder::Ending;
 
 /// Of which files something is dropped.
 #[derive(Clone, Copy, Debug, PartialEq, Eq)]

@@ -13,7 +13,7 @@ use crate::looking::look_for_world;
 use crate::recovering::{warn_of, warn_of_failed};
 use crate::served::{ServerReport, server_in};
 use action_log::{SEGMENT_TICKS, judge_log};
-use disk_model::FourFiles;
+use disk_model::{FourFiles, IMAGE_A, IMAGE_B, LOG_A, LOG_B};
 use recovery::{Recovered, Slot};
 use std::alloc::Global;
 use std::fmt;
@@ -21,8 +21,8 @@ use std::fs::{File, Files};
 use std::time::Clock;
 use world_actions::Refusal;
 use world_folder::{
-    Checks, Ending, Folder, FoundReport, Guard, IMAGE_A, IMAGE_B, LOG_A, LOG_B, OnLoss, Reading,
-    SystemFolder, WorldReport, checks_in, guard_age,
+    Checks, Ending, Folder, FoundReport, Guard, OnLoss, Reading, SystemFolder, WorldReport,
+    checks_in, guard_age,
 };
 
 /// Figures of a world.

@@ -26,11 +26,12 @@ pub enum Health {
     NotServed,
     /// The locks of the files can't be asked for.
     Unknown,
-    /// The server has given no sign of life for so many seconds.
+    /// The server has given no sign of life for this number of seconds.
     Hangs(u64),
 }
 
-/// How the world of this server is, whose guard was written or touched so many seconds ago.
+/// How the world of this server is. `age` is the number of seconds since its guard was written or
+/// touched.
 pub fn health_of(server: ServerReport, age: Option<u64>) -> Health
     ensures { result ≡ health_of server age }
 {

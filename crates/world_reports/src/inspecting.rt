@@ -1,22 +1,20 @@
 ghost use Rattle.std.specs.Prelude.{◌≡◌, Some, IsTrue, IfOk, IfErr, OnOk, string_bytes};
 ghost use Rattle.world_folder.specs.Ending.{IsDone, IsFault};
-ghost use Rattle.world_reports.specs.Inspection.{IsFileLine, IsFileReport, IsInspected, words_text};
+ghost use Rattle.world_reports.specs.Inspection.{IsLineOf, IsFileReport, IsInspected, words_text};
 ghost use Rattle.world_reports.specs.Inspection.{AreFilesReported, file_line_text, words_printed};
 
 use crate::counted::Counted;
 use crate::file_reports::{FileReport, report_image, report_log};
 use crate::looking::{Seen, found_in, look_at_folder};
 use crate::recovering::{warn_of, warn_of_failed};
-use disk_model::FourFiles;
+use disk_model::{FourFiles, WorldFile};
 use recovery::Recovered;
 use std::alloc::{AllocError, Global};
 use std::fs::{File, Files};
 use std::time::Clock;
 use std::{fmt, io};
 use world_actions::Refusal;
-use world_folder::{
-    Checks, Ending, Folder, FoundReport, Named, OnLoss, Reading, SystemFolder, WorldFile, checks_in,
-};
+use world_folder::{Checks, Ending, Folder, FoundReport, OnLoss, Reading, SystemFolder, checks_in};
 
 /// Prints how each file of a folder of the system reads, and which world they hold, as
 /// `report_files` does.
@@ -86,10 +84,30 @@ fn print_files<F: Folder>(alloc: Global, folder: &mut F, seen: &Seen) -> Result<
     ensures fault { IfErr result IsFault }
 {
     let lines = FourFiles {
-        image_a: file_line(alloc, &seen.files.image_a, seen.lengths.image_a)?,
-        image_b: file_line(alloc, &seen.files.image_b, seen.lengths.image_b)?,
-        log_a: file_line(alloc, &seen.files.log_a, seen.lengths.log_a)?,
-        log_b: file_line(alloc, &seen.files.log_b, seen.lengths.log_b)?,
+        image_a: file_line(
+            alloc,
+            WorldFile::ImageA,
+            &seen.files.image_a,
+            seen.lengths.image_a,
+        )?,
+        image_b: file_line(
+            alloc,
+            WorldFile::ImageB,
+            &seen.files.image_b,
+            seen.lengths.image_b,
+        )?,
+        log_a: file_line(
+            alloc,
+            WorldFile::LogA,
+            &seen.files.log_a,
+            seen.lengths.log_a,
+        )?,
+        log_b: file_line(
+            alloc,
+            WorldFile::LogB,
+            &seen.files.log_b,
+            seen.lengths.log_b,
+        )?,
     };
     folder.print(lines.image_a)?;
     folder.print(lines.image_b)?;
@@ -109,23 +127,24 @@ struct FileLine {
 // The line on a file that was read so. A length that isn't known is that of the bytes.
 fn file_line(
     alloc: Global,
-    named: &Named<io::Result<Vec<u8>>>,
+    file: WorldFile,
+    read: &io::Result<Vec<u8>>,
     length: Option<u64>,
 ) -> Result<FileLine, Ending>
-    ensures line { IfOk result (IsFileLine named.now length) }
+    ensures line { IfOk result (IsLineOf file read.now length) }
     ensures fault { IfErr result IsFault }
 {
-    match &named.value {
-        Ok(bytes) => match reported_of(alloc, named.file, bytes) {
+    match read {
+        Ok(bytes) => match reported_of(alloc, file, bytes) {
             Ok(reported) => Ok(FileLine {
-                file: named.file,
+                file,
                 reported: Ok(reported),
                 length: length.unwrap_or(bytes.len() as u64),
             }),
             Err(refusal) => Err(Ending::Fault(refusal)),
         },
         Err(error) => Ok(FileLine {
-            file: named.file,
+            file,
             reported: Err(*error),
             length: 0,
         }),

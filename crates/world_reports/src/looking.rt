@@ -3,22 +3,21 @@ ghost use Rattle.std.specs.Prelude.{◌≡◌, Ok, Some, IsTrue, IfOk, IfErr};
 ghost use Rattle.world_folder.specs.Ending.{IsFault, ReportsWhy};
 ghost use Rattle.world_folder.specs.Fault.{AreJudged, AreRead, Stands};
 ghost use Rattle.world_reports.specs.Looking.{IsSeen, IsMeasured, AreMeasured, AreReadAndMeasured};
-ghost use Rattle.world_reports.specs.Looking.{AreKnown, IsWorldSeen, lengths_known};
-ghost use Rattle.world_folder.specs.WorldFile.{AreNamed};
+ghost use Rattle.world_reports.specs.Looking.{IsWorldSeen, lengths_known};
+ghost use Rattle.disk_model.specs.FourFiles.{EachFile};
 
 use crate::copying::{NotCopied, copy_world};
-use disk_model::FourFiles;
+use disk_model::{FourFiles, WorldFile};
 use std::alloc::Global;
 use std::io;
 use world_folder::{
-    Checks, Ending, Folder, Found, Named, Reading, Unreadable, WorldFile, all_read, read_folder,
-    stands_in,
+    Checks, Ending, Folder, Found, Reading, Unreadable, all_read, read_folder, stands_in,
 };
 
 /// The bytes of four files at one time that their formats read, and how long the files are.
 #[derive(Drop)]
 pub struct Seen {
-    pub files: FourFiles<Named<io::Result<Vec<u8>>>>,
+    pub files: FourFiles<io::Result<Vec<u8>>>,
     /// A length is missing if its file can't be looked at.
     pub lengths: FourFiles<Option<u64>>,
     /// How often the look was begun.
@@ -72,7 +71,7 @@ pub fn look_for_world<F: Folder>(
 pub fn found_in(
     alloc: Global,
     folder: &str,
-    files: FourFiles<Named<io::Result<Vec<u8>>>>,
+    files: FourFiles<io::Result<Vec<u8>>>,
     checks: Checks,
 ) -> Result<(FourFiles<Vec<u8>>, Found), Ending>
     ensures read { IfOk result (λ found. AreRead files found.0) }
@@ -112,12 +111,11 @@ pub fn look_at_folder<F: Folder>(
 ) -> Result<Seen, Ending>
     ensures seen { IsTrue F.honest → IsTrue F.File.honest → IfOk result (λ seen.
         IsSeen seen (F.history folder.old) (F.history folder.new)) }
-    ensures named { IfOk result (λ seen. AreNamed seen.files) }
     ensures fault { IfErr result IsFault }
 {
     match copy_world(alloc, folder, path, how) {
         Ok(copied) => Ok(Seen {
-            files: named(copied.files),
+            files: read_of(copied.files),
             lengths: known(copied.lengths),
             tries: copied.tries,
             failed: None,
@@ -135,7 +133,6 @@ pub fn look_at_folder<F: Folder>(
 fn look_at_each<F: Folder>(alloc: Global, folder: &mut F, failed: Option<Unreadable>) -> Seen
     ensures seen { IsTrue F.honest → IsTrue F.File.honest
         → AreReadAndMeasured result (F.history folder.old) (F.history folder.new) }
-    ensures named { AreNamed result.files }
     ensures failed { result.failed ≡ failed }
 {
     let files = read_folder(alloc, folder);
@@ -148,37 +145,17 @@ fn look_at_each<F: Folder>(alloc: Global, folder: &mut F, failed: Option<Unreada
     }
 }
 
-// The files that were read, each with its name.
-fn named(files: FourFiles<Vec<u8>>) -> FourFiles<Named<io::Result<Vec<u8>>>>
-    ensures named { AreNamed result }
-    ensures read { AreRead result files }
+// The files, as each is read without an error.
+fn read_of(files: FourFiles<Vec<u8>>) -> FourFiles<io::Result<Vec<u8>>>
+    ensures { AreRead result files }
 {
-    FourFiles {
-        image_a: read(WorldFile::ImageA, files.image_a),
-        image_b: read(WorldFile::ImageB, files.image_b),
-        log_a: read(WorldFile::LogA, files.log_a),
-        log_b: read(WorldFile::LogB, files.log_b),
-    }
-}
-
-fn read(file: WorldFile, bytes: Vec<u8>) -> Named<io::Result<Vec<u8>>>
-    ensures { (result.file ≡ file) × (result.value ≡ Ok bytes) }
-{
-    Named {
-        file,
-        value: Ok(bytes),
-    }
+    files.map(|bytes| Ok(bytes))
 }
 
 fn known(lengths: FourFiles<u64>) -> FourFiles<Option<u64>>
-    ensures { AreKnown lengths result }
+    ensures { EachFile lengths result (λ length known. known ≡ Some length) }
 {
-    FourFiles {
-        image_a: Some(lengths.image_a),
-        image_b: Some(lengths.image_b),
-        log_a: Some(lengths.log_a),
-        log_b: Some(lengths.log_b),
-    }
+    lengths.map(|length| Some(length))
 }
 
 fn lengths_in<F: Folder>(folder: &mut F) -> FourFiles<Option<u64>>

@@ -2,18 +2,19 @@
 //! bytes, and at their heads again.
 ghost use Rattle.std.specs.Prelude.{◌≡◌, true, false, length, IsTrue, IfOk, IfErr, IfSome};
 ghost use Rattle.world_reports.specs.Copying.{IsCutShort, IsReadWhole, AreParts};
-ghost use Rattle.world_reports.specs.Copying.{IsPart, AreSameContents, AreLengths, head_of};
+ghost use Rattle.world_reports.specs.Copying.{IsPart, head_of};
+ghost use Rattle.disk_model.specs.FourFiles.{mapped};
 ghost use Rattle.world_folder.specs.Ending.{IsFault, NamesFile};
 ghost use Rattle.world_folder.specs.Look.{look_of};
 ghost use Rattle.world_reports.specs.Looks.{AreLookedAlike};
 
 use crate::copying::Source;
 use action_log::{SEGMENT_BYTES_MAX, extent_of};
-use disk_model::FourFiles;
+use disk_model::{FourFiles, WorldFile};
 use std::alloc::Global;
 use world_folder::{
-    Ending, IMAGE_HEAD, Look, SEGMENT_HEAD, WorldDisk, WorldFile, answered, look_at, opened,
-    read_head, read_whole,
+    Ending, IMAGE_HEAD, Look, SEGMENT_HEAD, WorldDisk, answered, look_at, opened, read_head,
+    read_whole,
 };
 
 /// The heads of four files, of which one image is open.
@@ -51,10 +52,11 @@ impl Before {
         alloc: Global,
         source: &mut Source<'_, D>,
     ) -> Result<Option<Self>, Ending>
-        ensures heads { IsTrue D.honest → IfOk result (λ found.
-            IfSome found (λ before. AreParts D.content false source.old.files before.heads)) }
+        ensures heads { IsTrue D.honest → IfOk result (λ found. IfSome found (λ before.
+            AreParts false (mapped D.content source.old.files) before.heads)) }
         ensures kept { IsTrue D.honest
-            → IfOk result (λ _. AreSameContents D.content source.old.files source.new.files) }
+            → IfOk result (λ _.
+            mapped D.content source.new.files ≡ mapped D.content source.old.files) }
         ensures fault { IfErr result IsFault }
     {
         let heads = read_files(alloc, source, false)?;
@@ -71,12 +73,14 @@ impl Before {
         source: &mut Source<'_, D>,
     ) -> Result<Within, Ending>
         ensures before { IfOk result (λ within. within.before ≡ self) }
-        ensures files { IsTrue D.honest
-            → IfOk result (λ within. AreParts D.content true source.old.files within.files) }
+        ensures files { IsTrue D.honest → IfOk result (λ within.
+            AreParts true (mapped D.content source.old.files) within.files) }
         ensures lengths { IsTrue D.honest
-            → IfOk result (λ within. AreLengths D.content source.old.files within.lengths) }
+            → IfOk result (λ within.
+            within.lengths ≡ mapped length (mapped D.content source.old.files)) }
         ensures kept { IsTrue D.honest
-            → IfOk result (λ _. AreSameContents D.content source.old.files source.new.files) }
+            → IfOk result (λ _.
+            mapped D.content source.new.files ≡ mapped D.content source.old.files) }
         ensures fault { IfErr result IsFault }
     {
         let files = read_files(alloc, source, true)?;
@@ -96,10 +100,11 @@ impl Within {
         alloc: Global,
         source: &mut Source<'_, D>,
     ) -> Result<After, Ending>
-        ensures heads { IsTrue D.honest
-            → IfOk result (λ after. AreParts D.content false source.old.files after.heads) }
+        ensures heads { IsTrue D.honest → IfOk result (λ after.
+            AreParts false (mapped D.content source.old.files) after.heads) }
         ensures kept { IsTrue D.honest
-            → IfOk result (λ _. AreSameContents D.content source.old.files source.new.files) }
+            → IfOk result (λ _.
+            mapped D.content source.new.files ≡ mapped D.content source.old.files) }
         ensures fault { IfErr result IsFault }
     {
         let heads = read_files(alloc, source, false)?;
@@ -174,9 +179,11 @@ fn read_files<D: WorldDisk>(
     source: &mut Source<'_, D>,
     whole: bool,
 ) -> Result<FourFiles<Vec<u8>>, Ending>
-    ensures parts { IsTrue D.honest → IfOk result (AreParts D.content whole source.old.files) }
+    ensures parts { IsTrue D.honest → IfOk result
+        (AreParts whole (mapped D.content source.old.files)) }
     ensures kept { IsTrue D.honest
-        → IfOk result (λ _. AreSameContents D.content source.old.files source.new.files) }
+        → IfOk result (λ _.
+        mapped D.content source.new.files ≡ mapped D.content source.old.files) }
     ensures fault { IfErr result IsFault }
 {
     let path = source.path;
@@ -226,9 +233,11 @@ fn lengths_of<D: WorldDisk>(
     alloc: Global,
     source: &mut Source<'_, D>,
 ) -> Result<FourFiles<u64>, Ending>
-    ensures lengths { IsTrue D.honest → IfOk result (AreLengths D.content source.old.files) }
+    ensures lengths { IsTrue D.honest → IfOk result (λ lengths.
+        lengths ≡ mapped length (mapped D.content source.old.files)) }
     ensures kept { IsTrue D.honest
-        → IfOk result (λ _. AreSameContents D.content source.old.files source.new.files) }
+        → IfOk result (λ _.
+        mapped D.content source.new.files ≡ mapped D.content source.old.files) }
     ensures fault { IfErr result IsFault }
 {
     let path = source.path;

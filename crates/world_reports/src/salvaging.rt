@@ -8,7 +8,7 @@ ghost use Rattle.world_reports.specs.Salvaging.{failed_of, AreFailedNamed, parts
 ghost use Rattle.world_reports.specs.Salvaging.{IsSalvagedOf, IsSalvagedInto, IsMadeOf};
 ghost use Rattle.world_reports.specs.Salvaging.{ending_after};
 ghost use Rattle.world_reports.specs.Texts.{image_part_text, log_part_text, run_text};
-ghost use Rattle.world_folder.specs.WorldFile.{name_of};
+ghost use Rattle.disk_model.specs.FourFiles.{name_of};
 
 use crate::backing_up::{look_for_room, write_files};
 use crate::counted::Counted;
@@ -17,7 +17,7 @@ use crate::recovering::{warn_of, warn_of_failed};
 use crate::taking_back::taken_back;
 use crate::two_tries::{TwoTries, is_lost, try_folder};
 use crate::verified::{SalvagedInto, verify};
-use disk_model::FourFiles;
+use disk_model::{FourFiles, WorldFile};
 use file_format::{CLOSED_GATE, OPEN_GATE};
 use image_files::image_body;
 use recovery::{Recovered, Slot};
@@ -28,8 +28,8 @@ use std::time::Clock;
 use std::{fmt, io};
 use world_actions::Refusal;
 use world_folder::{
-    Ending, Fault, Finding, Folder, Guard, MadeFiles, SystemFolder, Unreadable, WorldFile,
-    older_finding, opened, path_of, read_guard,
+    Ending, Fault, Finding, Folder, Guard, SystemFolder, Unreadable, older_finding, opened,
+    path_of, read_guard,
 };
 
 /// Makes a world in an empty folder of the system of what can be read of the files of another one,
@@ -71,7 +71,7 @@ pub fn salvage_into<F: Folder, T: Folder>(
 {
     look_for_room(alloc, path, into, to)?;
     let read = try_folder(alloc, from);
-    let mut made = MadeFiles::none();
+    let mut made = FourFiles::each(false);
     match salvage_read(alloc, path, read, into, to, guard, &mut made) {
         Ok(done) => Ok(done),
         Err(ending) => Err(taken_back(alloc, into, to, made, ending)),
@@ -86,7 +86,7 @@ fn salvage_read<T: Folder>(
     into: &mut T,
     to: &str,
     guard: Option<Guard>,
-    made: &mut MadeFiles,
+    made: &mut FourFiles<bool>,
 ) -> Result<(FourFiles<T::File>, Ending), Ending>
     ensures salvaged { IsTrue T.honest → IsTrue T.File.honest → IfOk result (λ done.
         IsMadeOf T.File.content T.File.may_leave guard read done.0 done.1 (T.history into.old)
@@ -126,24 +126,14 @@ fn ending_after(older: Option<Finding>, dropped: Dropped) -> Ending
 fn lost_of(read: &FourFiles<TwoTries>) -> FourFiles<bool>
     ensures { result ≡ lost_of read.now }
 {
-    FourFiles {
-        image_a: read.image_a.value.is_err(),
-        image_b: read.image_b.value.is_err(),
-        log_a: read.log_a.value.is_err(),
-        log_b: read.log_b.value.is_err(),
-    }
+    read.map_ref(|file| file.value.is_err())
 }
 
 // The errors of the first tries of files that a second try could read.
 fn failed_of(read: &FourFiles<TwoTries>) -> FourFiles<Option<io::Error>>
     ensures { result ≡ failed_of read.now }
 {
-    FourFiles {
-        image_a: read.image_a.failed_once(),
-        image_b: read.image_b.failed_once(),
-        log_a: read.log_a.failed_once(),
-        log_b: read.log_b.failed_once(),
-    }
+    read.map_ref(|file| file.failed_once())
 }
 
 // Names on standard error each file that only a second try could read.
@@ -200,30 +190,31 @@ fn readable_in<T: Folder>(
         log_b,
     } = read;
     Ok(FourFiles {
-        image_a: readable(alloc, path, image_a, into)?,
-        image_b: readable(alloc, path, image_b, into)?,
-        log_a: readable(alloc, path, log_a, into)?,
-        log_b: readable(alloc, path, log_b, into)?,
+        image_a: readable(alloc, path, WorldFile::ImageA, image_a, into)?,
+        image_b: readable(alloc, path, WorldFile::ImageB, image_b, into)?,
+        log_a: readable(alloc, path, WorldFile::LogA, log_a, into)?,
+        log_b: readable(alloc, path, WorldFile::LogB, log_b, into)?,
     })
 }
 
 fn readable<T: Folder>(
     alloc: Global,
     path: &str,
-    file: TwoTries,
+    file: WorldFile,
+    read: TwoTries,
     into: &mut T,
 ) -> Result<Vec<u8>, Ending>
-    ensures bytes { IfOk result (AreBytesOf file.value) }
+    ensures bytes { IfOk result (AreBytesOf read.value) }
     ensures named { IsTrue T.honest
-        → OnOk result (NamesLost file.value (T.history into.old) (T.history into.new)) }
+        → OnOk result (NamesLost read.value (T.history into.old) (T.history into.new)) }
     ensures fault { IfErr result IsFault }
 {
-    match file.value {
+    match read.value {
         Err(error) if is_lost(&error) => {
-            into.print(LostLine(file.file, error))?;
+            into.print(LostLine(file, error))?;
             Ok(Vec::new(alloc))
         }
-        value => opened(alloc, path, file.file.name(), value),
+        value => opened(alloc, path, file.name(), value),
     }
 }
 

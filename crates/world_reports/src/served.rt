@@ -4,8 +4,9 @@ ghost use Rattle.world_reports.specs.Served.{IsServerReport, asked, folder_repor
 ghost use Rattle.world_reports.specs.Served.{part_reported, server_reported};
 ghost use Rattle.world_reports.specs.Texts.{part_text, server_text};
 
+use disk_model::WorldFile;
 use std::{fmt, io};
-use world_folder::{Folder, LockState, WorldFile};
+use world_folder::{Folder, LockState};
 
 /// The report on a part of a server. A part that is down stays so up to the server's end.
 #[derive(Clone, Copy, Debug, PartialEq, Eq)]

@@ -1,13 +1,15 @@
 //! The removal of the files of a copy that failed.
-ghost use Rattle.std.specs.Prelude.{◌≡◌, IsTrue, IfNone};
+ghost use Rattle.std.specs.Prelude.{◌≡◌, true, false, IsTrue, IfNone};
 ghost use Rattle.world_folder.specs.Ending.{IsFault};
-ghost use Rattle.world_folder.specs.Left.{Leaves, none_made, without};
+ghost use Rattle.world_folder.specs.Left.{Leaves};
+ghost use Rattle.disk_model.specs.FourFiles.{each_of, with_value};
 ghost use Rattle.world_reports.specs.TakingBack.{IsLeftBy, IsTakenBack};
 
+use disk_model::{FourFiles, WorldFile};
 use std::alloc::Global;
 use std::io;
 use world_actions::Refusal;
-use world_folder::{Ending, Folder, MadeFiles, Unfinished, Unreadable, Why, WorldFile, path_of};
+use world_folder::{Ending, Folder, Unfinished, Unreadable, Why, path_of};
 
 /// How a copy ends that failed after it made these files in a folder. They are removed, so that the
 /// same command can be run again. Those that can't be removed are named.
@@ -15,7 +17,7 @@ pub fn taken_back<F: Folder>(
     alloc: Global,
     into: &mut F,
     to: &str,
-    made: MadeFiles,
+    made: FourFiles<bool>,
     ending: Ending,
 ) -> Ending
     requires { IsFault ending }
@@ -34,10 +36,13 @@ pub fn taken_back<F: Folder>(
 
 // Removes each file that was made, the images first. It returns the first one that can't be
 // removed, and why.
-fn remove_each<F: Folder>(into: &mut F, left: &mut MadeFiles) -> Option<(WorldFile, io::Error)>
+fn remove_each<F: Folder>(
+    into: &mut F,
+    left: &mut FourFiles<bool>,
+) -> Option<(WorldFile, io::Error)>
     ensures leaves { IsTrue F.honest
         → Leaves left.old (F.history into.old) → Leaves left.new (F.history into.new) }
-    ensures none { IfNone result (left.new ≡ none_made) }
+    ensures none { IfNone result (left.new ≡ each_of false) }
 {
     let image_a = remove_one(into, WorldFile::ImageA, left);
     let image_b = remove_one(into, WorldFile::ImageB, left);
@@ -50,18 +55,18 @@ fn remove_each<F: Folder>(into: &mut F, left: &mut MadeFiles) -> Option<(WorldFi
 fn remove_one<F: Folder>(
     into: &mut F,
     file: WorldFile,
-    left: &mut MadeFiles,
+    left: &mut FourFiles<bool>,
 ) -> Option<(WorldFile, io::Error)>
     ensures leaves { IsTrue F.honest
         → Leaves left.old (F.history into.old) → Leaves left.new (F.history into.new) }
-    ensures none { IfNone result (left.new ≡ without file left.old) }
+    ensures none { IfNone result (left.new ≡ with_value file false left.old) }
 {
-    if !left.has(file) {
+    if !*left.get(file) {
         return None;
     }
     match into.remove(file) {
         Ok(()) => {
-            left.forget(file);
+            left.set(file, false);
             None
         }
         Err(error) => Some((file, error)),
@@ -72,7 +77,7 @@ fn remove_one<F: Folder>(
 fn left_by(
     alloc: Global,
     to: &str,
-    left: MadeFiles,
+    left: FourFiles<bool>,
     unremoved: (WorldFile, io::Error),
     ending: Ending,
 ) -> Ending
@@ -89,7 +94,7 @@ fn left_by(
     }
 }
 
-fn unfinished(made: MadeFiles, why: Why) -> Ending
+fn unfinished(made: FourFiles<bool>, why: Why) -> Ending
     ensures { result ≡ Ending.Unfinished (record { made = made; why = why }) }
 {
     Ending::Unfinished(Unfinished { made, why })

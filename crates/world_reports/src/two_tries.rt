@@ -2,15 +2,14 @@
 ghost use Rattle.std.specs.Prelude.{◌≡◌, ◌↔◌, IsTrue};
 ghost use Rattle.world_reports.specs.TwoTries.{IsLost, IsTried, IsTriedAgain, AreTried};
 
-use disk_model::FourFiles;
+use disk_model::{FourFiles, WorldFile};
 use std::alloc::Global;
 use std::io::{self, ErrorKind};
-use world_folder::{Folder, WorldFile, read_file};
+use world_folder::{Folder, read_file};
 
 /// The result of reading a file, at one try or two.
 #[derive(Drop)]
 pub struct TwoTries {
-    pub file: WorldFile,
     /// The error of the first try, if there was a second.
     pub failed: Option<io::Error>,
     /// The result of the last try.
@@ -47,13 +46,11 @@ pub fn try_folder<F: Folder>(alloc: Global, folder: &mut F) -> FourFiles<TwoTrie
 }
 
 fn try_file<F: Folder>(alloc: Global, folder: &mut F, file: WorldFile) -> TwoTries
-    ensures file { result.file ≡ file }
-    ensures tried { IsTrue F.honest → IsTrue F.File.honest → IsTried file result.failed result.value
+    ensures { IsTrue F.honest → IsTrue F.File.honest → IsTried file result.failed result.value
         (F.history folder.old) (F.history folder.new) }
 {
     match read_file(alloc, folder, file) {
         Ok(bytes) => TwoTries {
-            file,
             failed: None,
             value: Ok(bytes),
         },
@@ -68,20 +65,17 @@ fn try_again<F: Folder>(
     file: WorldFile,
     error: io::Error,
 ) -> TwoTries
-    ensures file { result.file ≡ file }
-    ensures tried { IsTrue F.honest → IsTrue F.File.honest
+    ensures { IsTrue F.honest → IsTrue F.File.honest
         → IsTriedAgain file error result.failed result.value (F.history folder.old)
         (F.history folder.new) }
 {
     if is_lost(&error) {
         TwoTries {
-            file,
             failed: Some(error),
             value: read_file(alloc, folder, file),
         }
     } else {
         TwoTries {
-            file,
             failed: None,
             value: Err(error),
         }

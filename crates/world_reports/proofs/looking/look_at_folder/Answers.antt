@@ -6,7 +6,7 @@ returns-in-Ok-clause-seen g c = λ honest honest_files. inl (record {
   copied = c.in-Ok.copied.files;
   lengths = c.in-Ok.copied.lengths;
   copy = c.in-Ok.ensures.copied honest honest_files;
-  are_read = c.named.ensures.read;
+  are_read = c.read_of.ensures;
   are_known = c.known.ensures;
   none_failed = refl;
 })
