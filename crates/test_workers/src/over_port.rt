@@ -19,7 +19,7 @@ use worker_steps::Opened;
 use worker_threads::Seats;
 use world_actions::Refusal;
 use world_folder::{Checks, Ending, OnLoss, WorldReport};
-use world_server::{Every, Front, Line, Losses, serve_world};
+use world_server::{Every, Frontend, Line, Losses, serve_world};
 
 const BATCHES: &[u8] = b"add 0 1\nget 0\nend\nadd 0 1\nget 0\nend\n";
 
@@ -59,7 +59,7 @@ struct Desk<R: Wait + Abort + Copy> {
     noted: Vec<Line>,
 }
 
-impl<R: Wait + Abort + Copy, M: Method> Front<M, ModelFile, Reporter<R>> for Desk<R> {
+impl<R: Wait + Abort + Copy, M: Method> Frontend<M, ModelFile, Reporter<R>> for Desk<R> {
     ghost use Rattle.std.specs.Prelude.{true};
 
     ghost known = { true };

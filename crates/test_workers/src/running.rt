@@ -11,7 +11,7 @@ use std::sync::Wait;
 use std::thread::Threads;
 use worker_steps::Gates;
 use worker_threads::{Seats, StoppedWorkers, Workers, meet_stopped, start, stop};
-use workers::{AskChannel, Gate, Looks};
+use workers::{AskChannel, Gate, Spins};
 use world_actions::Refusal;
 
 /// Starts workers on the world in these files. A round is due after each `every` ticks.
@@ -32,8 +32,8 @@ pub fn begin<
 ) -> (Workers<M, D, A, B, C>, AskChannel) {
     let opened = open_files::<M, D>(rt, alloc, files);
     let watch = Reporter { rt: *rt, to };
-    let looks = Looks::on_this_machine(rt, alloc).expect(rt, "a count");
-    start(rt, alloc, gates, watch, opened, every, looks).expect(rt, "workers")
+    let spins = Spins::on_this_machine(rt, alloc).expect(rt, "a count");
+    start(rt, alloc, gates, watch, opened, every, spins).expect(rt, "workers")
 }
 
 /// Waits until the workers have ended, and brings their ends together.

@@ -10,7 +10,7 @@ use std::sync::Wait;
 use std::thread::{self, JoinHandle, Threads};
 use std::time::Clock;
 use transports::Listener;
-use workers::{Ask, AskChannel, AskReceiver, Looks};
+use workers::{Ask, AskChannel, AskReceiver, Spins};
 use world_actions::Refusal;
 
 mod opening;
@@ -127,8 +127,8 @@ fn start_accepting<R: Threads + Wait + Clock + Abort + Copy + Send + 'static>(
     asks: AskChannel,
 ) -> JoinHandle<Accepted> {
     let here = *rt;
-    let looks = Looks::new(alloc, 1).expect(rt, "a count");
-    let accept = move || accept_sessions(&here, alloc, listener, THREE, asks, looks, Nobody);
+    let spins = Spins::new(alloc, 1).expect(rt, "a count");
+    let accept = move || accept_sessions(&here, alloc, listener, THREE, asks, spins, Nobody);
     match thread::spawn(rt, accept) {
         Ok(server) => server,
         Err(_) => panic!(rt; "no thread"),

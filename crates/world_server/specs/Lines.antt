@@ -8,10 +8,10 @@ use Rattle.world_folder.specs.Texts.{finding_text, world_text}
 use Rattle.world_server.specs.declared.line.Line.{Line}
 use Rattle.world_server.specs.declared.line.Line.TheVariants as line
 use Rattle.world_server.specs.declared.line.Paths.{Paths}
-use Rattle.world_server.specs.Paths.{path_at}
+use Rattle.disk_model.specs.FourFiles.{value_of}
 use Rattle.world_server.specs.Room.{room_after}
-use Rattle.world_server.specs.declared.place.Place.{Place}
-use Rattle.world_server.specs.declared.place.Place.TheVariants as place
+use Rattle.world_server.specs.declared.endpoint.Endpoint.{Endpoint}
+use Rattle.world_server.specs.declared.endpoint.Endpoint.TheVariants as place
 use Rattle.world_server.specs.declared.reporter.Report.{Report}
 
 -- the room for ticks after so many, and for how many seconds it lasts, if that is known
@@ -54,7 +54,7 @@ line_text paths (line.Stopped ended acked) =
 line_text paths (line.ImageOpened tick) =
     Some (codes "image of tick " ++ decimal tick ++ codes " opened")
 line_text paths (line.FileMissed file) =
-    Some (path_buf_bytes (path_at paths.files file)
+    Some (path_buf_bytes (value_of file paths.files)
     ++ codes " was removed or replaced: save the files before the server ends")
 line_text paths (line.RoomLeft left) = Some (room_text left)
 line_text paths (line.SessionRefused NoMemory) = Some (codes "session refused: there is no memory")
@@ -68,11 +68,11 @@ line_text paths line.Last = Some []
 line_text paths other = None
 
 -- the line of a place that clients may come to
-abbrev pub listening_line : Place → Line
+abbrev pub listening_line : Endpoint → Line
 listening_line (place.Port address) = line.Listening (socket_port address)
 listening_line (place.Socket file) = line.ListeningAtSocket
 
 -- the line of a place that no more clients can come to
-abbrev pub closed_line : Place → Line
+abbrev pub closed_line : Endpoint → Line
 closed_line (place.Port address) = line.PortClosed
 closed_line (place.Socket file) = line.SocketClosed

@@ -4,20 +4,11 @@ use Rattle.std.specs.Path.{path_buf_bytes, path_join}
 use Rattle.std.specs.declared.alloc.Global.{Global}
 use Rattle.std.specs.declared.path.PathBuf.{PathBuf}
 use Rattle.disk_model.specs.declared.four_files.FourFiles.{FourFiles}
-use Rattle.world_folder.specs.declared.world_file.TheConstants.{IMAGE_A, IMAGE_B, LOG_A, LOG_B}
-use Rattle.world_folder.specs.declared.world_file.WorldFile.{WorldFile}
-use Rattle.world_folder.specs.declared.world_file.WorldFile.TheVariants.{ImageA, ImageB, LogA, LogB}
+use Rattle.disk_model.specs.declared.world_file.TheConstants.{IMAGE_A, IMAGE_B, LOG_A, LOG_B}
 use Rattle.world_server.specs.declared.line.Paths.{Paths}
 use Rattle.world_server.specs.declared.service.Address.{Address}
 use Rattle.world_server.specs.declared.service.Address.TheVariants.{Port, Socket}
 use Rattle.world_server.specs.declared.service.Service.{Service}
-
--- the path of a file
-abbrev pub path_at : FourFiles (PathBuf Global) → WorldFile → PathBuf Global
-path_at paths ImageA = paths.image_a
-path_at paths ImageB = paths.image_b
-path_at paths LogA = paths.log_a
-path_at paths LogB = paths.log_b
 
 -- the paths of the four files in a folder
 abbrev pub ArePathsIn : (folder : List ℕ) → FourFiles (PathBuf Global) → Type 0

@@ -5,7 +5,7 @@ ghost use Rattle.std.specs.IoError.{error_kind};
 ghost use Rattle.world_folder.specs.Ending.{IsFault};
 
 use crate::runtime::LookUp;
-use disk_model::FourFiles;
+use disk_model::{FourFiles, WorldFile};
 use file_disk::FileDisk;
 use std::alloc::Global;
 use std::fs::File;
@@ -14,7 +14,7 @@ use std::path::PathBuf;
 use std::sync::atomic::{AtomicBool, Ordering};
 use std::time::Clock;
 use workers::{ImageWriter, Log};
-use world_folder::{Ending, Entry, WorldFile, lock, opened, path_of};
+use world_folder::{Ending, Entry, lock, opened, path_of};
 
 /// A file that a server has open, by its own descriptor.
 #[derive(Drop)]

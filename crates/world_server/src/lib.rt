@@ -7,13 +7,13 @@
 #![tactic(auto)]
 
 mod acked;
-mod front;
+mod endpoint;
+mod frontend;
 mod guarding;
 mod heartbeat;
 mod kept;
 mod line;
 mod lines;
-mod place;
 mod printer;
 mod reporter;
 mod room;
@@ -24,10 +24,10 @@ mod serving;
 mod socket;
 mod standing;
 mod streams;
-mod system_front;
+mod system_frontend;
 mod watchdog;
 
-pub use front::Front;
+pub use frontend::Frontend;
 pub use line::Line;
 pub use runtime::{LookUp, Runtime};
 pub use served::{Served, WorldFailure, serve_world, serve_world as serve_tcp};

@@ -1,14 +1,13 @@
 //! The lines that a server prints.
 ghost use Rattle.std.specs.Prelude.{◌≡◌};
 ghost use Rattle.world_server.specs.Lines.{line_text};
-ghost use Rattle.world_server.specs.Paths.{path_at};
 
 use crate::reporter::Report;
 use client_service::Unserved;
-use disk_model::FourFiles;
+use disk_model::{FourFiles, WorldFile};
 use std::path::PathBuf;
 use std::{fmt, io};
-use world_folder::{Finding, Reason, WorldFile};
+use world_folder::{Finding, Reason};
 
 /// A file whose call failed, and why.
 #[derive(Clone, Copy, Debug)]
@@ -46,7 +45,7 @@ pub enum Line {
     },
     /// The file no longer stands under its name.
     FileMissed(WorldFile),
-    /// So many ticks may still end until an image opens.
+    /// This number of ticks may still end until an image opens.
     RoomLeft(u64),
     SessionRefused(Unserved),
     ShortageBegan(io::Error),
@@ -56,7 +55,7 @@ pub enum Line {
     SocketClosed,
     OutputFailed(io::Error),
     Report(Report),
-    /// So many lines found no room.
+    /// This number of lines found no room.
     Dropped(u64),
     /// None follows.
     Last,
@@ -109,7 +108,7 @@ impl fmt::Display for Printed<'_> {
             Line::FileMissed(file) => write!(
                 f,
                 "{} was removed or replaced: save the files before the server ends",
-                path_of(&self.paths.files, file).as_str()
+                self.paths.files.get(file).as_str()
             ),
             Line::RoomLeft(0) => {
                 f.write_str("each batch is refused with 6: no image has opened for 65536 ticks")
@@ -146,16 +145,5 @@ fn write_failure<W: fmt::Write>(
     let Some(Failure { file, error }) = failure else {
         return Ok(());
     };
-    write!(f, ": {}: {}", path_of(paths, file).as_str(), Reason(error))
-}
-
-fn path_of(paths: &FourFiles<PathBuf>, file: WorldFile) -> &PathBuf
-    ensures { result.now ≡ path_at paths.now file }
-{
-    match file {
-        WorldFile::ImageA => &paths.image_a,
-        WorldFile::ImageB => &paths.image_b,
-        WorldFile::LogA => &paths.log_a,
-        WorldFile::LogB => &paths.log_b,
-    }
+    write!(f, ": {}: {}", paths.get(file).as_str(), Reason(error))
 }

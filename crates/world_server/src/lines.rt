@@ -2,15 +2,15 @@
 ghost use Rattle.std.specs.Prelude.{◌≡◌, None, Some, IfSome};
 
 use crate::acked::AckedOut;
+use crate::endpoint::Endpoint;
 use crate::kept::KeptFile;
 use crate::line::{Failure, Line};
-use crate::place::Place;
 use crate::printer::Printer;
 use crate::room::{Room, is_left_for_room};
 use crate::standing::{Standing, is_overdue, passed_since};
 use client_service::{Door, Pulse, Unserved};
 use crossbeam_channel::Sender;
-use disk_model::FourFiles;
+use disk_model::{FourFiles, WorldFile};
 use file_disk::{FileDisk, Pace};
 use std::alloc::{AllocError, Global};
 use std::io;
@@ -19,7 +19,6 @@ use std::sync::{Arc, Wait};
 use std::time::{Clock, Instant};
 use worker_threads::{Acked, TickWatch, Watch};
 use workers::{ImageWriter, Log};
-use world_folder::WorldFile;
 
 /// Passes on what happens in a running server as lines, and never waits for their readers. It locks
 /// the file that says what is down.
@@ -27,7 +26,7 @@ use world_folder::WorldFile;
 pub struct Lines<R: Wait + Clock + Net + Copy> {
     pub rt: R,
     /// The server listens there.
-    pub place: Arc<Place, Global>,
+    pub place: Arc<Endpoint, Global>,
     /// The files that it has open.
     pub files: Arc<FourFiles<KeptFile>, Global>,
     pub output: Printer,
@@ -79,7 +78,7 @@ impl<R: Wait + Clock + Net + Copy> Clone for Lines<R> {
 }
 
 impl<R: Wait + Clock + Net + Copy> Lines<R> {
-    // Has the server left, which may wait for clients.
+    // Lets the server be left, and wakes it if it waits for clients.
     fn leave(&self) {
         self.standing.leave();
         self.wake();

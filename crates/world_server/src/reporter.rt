@@ -49,7 +49,7 @@ impl fmt::Display for Report {
     }
 }
 
-// The room for ticks after so many, and for how many seconds it lasts, if that is known.
+// The room for ticks that is left, and for how many seconds it lasts, if that is known.
 #[derive(Clone, Copy)]
 struct RoomReport {
     since: u64,
@@ -104,7 +104,7 @@ fn report_on<R: Wait + Clock>(rt: &R, seconds: u32, pulse: &Pulse, errors: &Prin
     }
 }
 
-// The figures after so many seconds.
+// The figures, of which the rate is that of the last `seconds`.
 fn report_of(before: Counts, now: Counts, seconds: u32) -> Report
     ensures counts { result.counts ≡ now }
     ensures rate { 0 < seconds → result.rate ≡ (now.answered - before.answered) / seconds }
@@ -120,7 +120,7 @@ fn report_of(before: Counts, now: Counts, seconds: u32) -> Report
     }
 }
 
-// In how many seconds so much room is used up, if so many ticks ended in so many seconds.
+// In how many seconds the room is used up, if ticks go on to end at this rate.
 fn seconds_left(ticks: u64, seconds: u32, room: u64) -> Option<u64>
     requires { room ≤ 65536 }
     ensures { result ≡ seconds_left ticks seconds room }

@@ -42,22 +42,22 @@ impl Room {
     }
 }
 
-/// How many ticks may still end after so many since the last mark or start.
+/// How many ticks may still end, if `since` have ended since the last mark or start.
 pub fn room_after(since: u64) -> u64
     ensures { result ≡ room_after since }
 {
     TICKS.saturating_sub(since)
 }
 
-// How many quarters of the room so many ticks use up.
+// How many quarters of the room are used up.
 fn quarters_of(since: u64) -> u64
     ensures { result ≡ quarters_of since }
 {
     since / (TICKS / 4)
 }
 
-/// True if a server is left for its room after so many ticks since the last mark or start. It exits
-/// by that, its images are down, and little room is left.
+/// True if a server is left for its room. It exits by that, its images are down, and little room is
+/// left.
 pub fn is_left_for_room(exits: bool, images_down: bool, since: u64) -> bool
     ensures { IsTrue result
         ↔ ((exits ≡ true) × (images_down ≡ true) × (room_after since ≤ 8192)) }

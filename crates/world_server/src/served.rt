@@ -14,7 +14,7 @@ ghost use Rattle.world_server.specs.Served.{failure_lines};
 ghost use Rattle.world_server.specs.Served.{RecoversTo, KeepsWorld, StandsOpened, GoesOnSound};
 ghost use Rattle.world_server.specs.Served.{LeavesWorld, FailsFor, GivesBack, EndsAsFailed};
 
-use crate::front::Front;
+use crate::frontend::Frontend;
 use crate::line::Line;
 use crate::service::Every;
 use crate::standing::{Losses, ending_of_left};
@@ -66,7 +66,7 @@ pub fn serve_world<
     M: Seats + Send + 'static,
     D: Disk + Drop + Send + 'static,
     W: Watch<D> + Door + Clone + Drop + Send + 'static,
-    F: Front<M, D, W>,
+    F: Frontend<M, D, W>,
 >(
     rt: &R,
     alloc: Global,
@@ -109,7 +109,7 @@ pub fn serve_world<
 }
 
 // Recovers the world of the files, prints which one it is, and runs its start to the end.
-fn open_files<M: Seats, D: Disk + Drop, W, F: Front<M, D, W>>(
+fn open_files<M: Seats, D: Disk + Drop, W, F: Frontend<M, D, W>>(
     alloc: Global,
     front: &mut F,
     files: FourFiles<D>,
@@ -158,7 +158,7 @@ fn open_files<M: Seats, D: Disk + Drop, W, F: Front<M, D, W>>(
 }
 
 // Prints which world was recovered, and names what was found of a loss.
-fn announce<M: Method, D: Disk + Drop, W, F: Front<M, D, W>>(
+fn announce<M: Method, D: Disk + Drop, W, F: Frontend<M, D, W>>(
     front: &mut F,
     recovered: WorldReport,
     finding: Option<Finding>,
@@ -183,7 +183,7 @@ fn serve_opened<
     M: Method + Send + 'static,
     D: Disk + Drop + Send + 'static,
     W: Watch<D> + Door + Clone + Drop + Send + 'static,
-    F: Front<M, D, W>,
+    F: Frontend<M, D, W>,
 >(
     rt: &R,
     alloc: Global,

@@ -7,7 +7,7 @@ use crate::lines::Lines;
 use crate::runtime::{LookUp, Runtime};
 use crate::served::{Served, WorldFailure, serve_world};
 use crate::service::Service;
-use crate::system_front::SystemFront;
+use crate::system_frontend::SystemFrontend;
 use disk_model::FourFiles;
 use file_disk::{FileDisk, Pace, Valve};
 use file_readers::read_files;
@@ -23,8 +23,8 @@ use world_folder::{
     touch_guard,
 };
 
-/// Serves the world in a folder to so many clients. It prints which world was recovered, where it
-/// listens, and how far play came.
+/// Serves the world in a folder. It prints which world was recovered, where it listens, and how far
+/// play came.
 pub fn serve<
     R: Runtime
         + Wait
@@ -71,13 +71,13 @@ fn serve_by<
     }
     let pace = pace_images(rt.alloc(), &mut files)?;
     let valve = valve_logs(rt.alloc(), &mut files)?;
-    let mut front = SystemFront::start(rt, service, guard, pace, valve)?;
+    let mut front = SystemFrontend::start(rt, service, guard, pace, valve)?;
     let (every, admission, checks) = (
         service.due_after(),
         service.admission(),
         service.checks(guard),
     );
-    let served = serve_world::<R, M, FileDisk, Lines<R>, SystemFront<'_, R>>(
+    let served = serve_world::<R, M, FileDisk, Lines<R>, SystemFrontend<'_, R>>(
         rt,
         rt.alloc(),
         &mut front,

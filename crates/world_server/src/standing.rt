@@ -103,7 +103,7 @@ pub fn passed_since<R: Clock>(rt: &R, since: Option<Instant>) -> Option<Duration
     since?.elapsed(rt).ok()
 }
 
-/// True if so many seconds have passed. Without a number or a known time they never have.
+/// True if `seconds` have passed. Without a number or a known time they never have.
 pub fn is_overdue(seconds: Option<u32>, passed: Option<Duration>) -> bool
     ensures { IsTrue result ↔ IsOverdue seconds passed }
 {

@@ -8,7 +8,7 @@ use crate::line::{Line, Paths, Printed};
 use crate::printer::{Printer, StandardError, StandardOutput, Stream, start_printer};
 use crate::service::{Address, Service};
 use crossbeam_channel::Receiver;
-use disk_model::FourFiles;
+use disk_model::{FourFiles, IMAGE_A, IMAGE_B, LOG_A, LOG_B};
 use std::alloc::{AllocError, Global};
 use std::io;
 use std::path::PathBuf;
@@ -16,7 +16,7 @@ use std::sync::Wait;
 use std::thread::Threads;
 use std::time::Clock;
 use worker_threads::NotStarted;
-use world_folder::{Ending, IMAGE_A, IMAGE_B, LOG_A, LOG_B, path_of};
+use world_folder::{Ending, path_of};
 
 /// Standard output and standard error, each with a thread that prints its lines.
 #[derive(Drop)]

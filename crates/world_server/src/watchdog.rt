@@ -1,15 +1,15 @@
 //! A thread that looks at a running server twice a second, writes the guard of its world, and gives
 //! signs of life.
 
+use crate::endpoint::Endpoint;
 use crate::guarding::GuardKeeper;
 use crate::kept::KeptFile;
 use crate::line::Line;
-use crate::place::Place;
 use crate::printer::Printer;
 use crate::runtime::LookUp;
 use crate::standing::{Standing, is_left_for_images, passed_since};
 use crossbeam_channel::{Receiver, RecvTimeoutError, Sender, bounded};
-use disk_model::FourFiles;
+use disk_model::{FourFiles, WorldFile};
 use file_disk::Valve;
 use std::alloc::Global;
 use std::fs::File;
@@ -19,7 +19,7 @@ use std::sync::{Arc, Wait};
 use std::thread::{self, Threads};
 use std::time::{Clock, Duration, Instant};
 use worker_threads::NotStarted;
-use world_folder::{WorldFile, lock};
+use world_folder::lock;
 
 /// How long it waits before it looks again, unless it is woken.
 const PATIENCE_MILLISECONDS: u64 = 500;
@@ -28,7 +28,7 @@ const PATIENCE_MILLISECONDS: u64 = 500;
 #[derive(Drop)]
 pub struct Watched {
     /// The server listens there.
-    pub place: Arc<Place, Global>,
+    pub place: Arc<Endpoint, Global>,
     /// The files that it has open.
     pub files: Arc<FourFiles<KeptFile>, Global>,
     /// Their folder, if it could be opened. It is locked once a file was removed or replaced, so
@@ -172,7 +172,7 @@ impl Watched {
         }
     }
 
-    // Has the server left once its images have been down for as long as they may.
+    // Lets the server be left once its images have been down for as long as they may.
     fn look_at_images<R: Clock>(&mut self, rt: &R) {
         let images_down = self.standing.are_images_down();
         if images_down && self.down_since.is_none() {

@@ -1,11 +1,12 @@
 // `steps`
 use super::same::same;
 use action_log::LogAnswer;
+use disk_model::FourFiles;
 use image_files::ImageAnswer;
 use shared_capture::{Joined, Zig};
 use std::alloc::Global;
 use std::process::Abort;
-use steps::{Answer, Core, Fate, Move, Remains, run, run_script};
+use steps::{Answer, Core, Fate, Move, run, run_script};
 use world_actions::{Action, Refusal};
 use zigzag::Zigzag;
 
@@ -59,7 +60,7 @@ fn moves(alloc: Global) -> Result<Vec<Move>, Refusal> {
     moves.push(Move::Cover(1))?;
     moves.push(Move::Image(Fate::Failed))?;
     moves.push(Move::Log(Fate::Done))?;
-    moves.push(Move::Crash(Remains::none(alloc)))?;
+    moves.push(Move::Crash(FourFiles::empty(alloc)))?;
     Ok(moves)
 }
 

@@ -7,7 +7,7 @@ use std::thread::Threads;
 use std::time::Clock;
 use worker_threads::{Seats, Watch};
 use world_folder::Checks;
-use world_server::{Every, Front, Served, WorldFailure, serve_tcp};
+use world_server::{Every, Frontend, Served, WorldFailure, serve_tcp};
 
 // Serves the world of four files to the clients of a front.
 fn serve<
@@ -15,7 +15,7 @@ fn serve<
     M: Seats + Send + 'static,
     D: Disk + Drop + Send + 'static,
     W: Watch<D> + Door + Clone + Drop + Send + 'static,
-    F: Front<M, D, W>,
+    F: Frontend<M, D, W>,
 >(
     rt: &R,
     alloc: Global,

@@ -19,7 +19,7 @@ use worker_threads::{
 };
 use workers::{
     AskChannel, AskReceiver, Asker, AwaitedReply, Checkpointer, Gate, ImageWriter, Log, LogWriter,
-    Looks, Mutator, Open, Pass, Place, Post, Refused, Reply, ReplySlot, play,
+    Mutator, Open, Pass, Place, Post, Refused, Reply, ReplySlot, Spins, play,
 };
 use world_actions::{Action, Refusal};
 use world_start::{fresh_files, recover_world};
@@ -266,8 +266,8 @@ fn start_workers<R: Threads + Wait + Abort + Copy + Send + 'static, M: Seats + S
 ) -> (Running<M>, AskChannel) {
     let files = empty_files(alloc).expect(rt, "memory");
     let opened = open_world::<M, ModelFile>(rt, alloc, files);
-    let looks = Looks::on_this_machine(rt, alloc).expect(rt, "memory");
-    start(rt, alloc, open_gates(), Deaf, opened, 64, looks).expect(rt, "workers")
+    let spins = Spins::on_this_machine(rt, alloc).expect(rt, "memory");
+    start(rt, alloc, open_gates(), Deaf, opened, 64, spins).expect(rt, "workers")
 }
 
 // Stops workers, and brings their ends together.

@@ -14,19 +14,19 @@ const PATIENCE_MILLISECONDS: u64 = 100;
 
 /// The port or the socket that a server listens on.
 #[derive(Drop)]
-pub enum Place {
+pub enum Endpoint {
     Port(SocketAddr),
     Socket(SocketFile),
 }
 
-impl Place {
+impl Endpoint {
     /// Says that clients may come.
     pub fn listening(&self) -> Line
         ensures { result ≡ listening_line self.now }
     {
         match self {
-            Place::Port(address) => Line::Listening(address.port()),
-            Place::Socket(_) => Line::ListeningAtSocket,
+            Endpoint::Port(address) => Line::Listening(address.port()),
+            Endpoint::Socket(_) => Line::ListeningAtSocket,
         }
     }
 
@@ -35,8 +35,8 @@ impl Place {
         ensures { result ≡ closed_line self.now }
     {
         match self {
-            Place::Port(_) => Line::PortClosed,
-            Place::Socket(_) => Line::SocketClosed,
+            Endpoint::Port(_) => Line::PortClosed,
+            Endpoint::Socket(_) => Line::SocketClosed,
         }
     }
 
@@ -44,11 +44,11 @@ impl Place {
     /// the system's queue of connections is full; a server with such a queue is awake.
     pub fn wake<R: Net>(&self, rt: &R) {
         match self {
-            Place::Port(address) => {
+            Endpoint::Port(address) => {
                 let patience = Duration::from_millis(PATIENCE_MILLISECONDS);
                 let _ = TcpStream::connect_timeout(rt, address, patience);
             }
-            Place::Socket(file) => {
+            Endpoint::Socket(file) => {
                 let _ = UnixStream::connect(rt, file.path.as_path());
             }
         }
@@ -56,7 +56,7 @@ impl Place {
 
     /// Gives it up, at the server's end: the file of a socket is removed.
     pub fn leave<R: Files>(&self, rt: &R) {
-        if let Place::Socket(file) = self {
+        if let Endpoint::Socket(file) = self {
             file.remove(rt);
         }
     }

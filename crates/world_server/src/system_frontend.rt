@@ -4,13 +4,13 @@ ghost use Rattle.world_folder.specs.Ending.{IsFault};
 ghost use Rattle.world_server.specs.Serving.{EndsServing};
 
 use crate::acked::AckedOut;
-use crate::front::Front;
+use crate::endpoint::Endpoint;
+use crate::frontend::Frontend;
 use crate::guarding::{GuardKeeper, started_guard};
 use crate::heartbeat::Heartbeat;
 use crate::kept::kept_files;
 use crate::line::Line;
 use crate::lines::Lines;
-use crate::place::Place;
 use crate::reporter::start_reporter;
 use crate::room::Room;
 use crate::runtime::{LookUp, Runtime};
@@ -43,7 +43,7 @@ const PATIENCE_SECONDS: u64 = 1;
 
 /// The streams of a server, and the place where it listens once its world is open.
 #[derive(Drop)]
-pub struct SystemFront<'a, R: Wait + Clock + Net + Files + Copy> {
+pub struct SystemFrontend<'a, R: Wait + Clock + Net + Files + Copy> {
     rt: R,
     service: Service<'a>,
     /// Missing if the system gives no thread for them. Lines are then printed at once, and no
@@ -58,7 +58,7 @@ pub struct SystemFront<'a, R: Wait + Clock + Net + Files + Copy> {
     guard: Option<Guard>,
     /// Fails once the thread that writes the guard has ended.
     guarded: Option<Receiver<()>>,
-    place: Option<Arc<Place, Global>>,
+    place: Option<Arc<Endpoint, Global>>,
     /// The pace of the image files.
     pace: Pace,
     /// The valve of the log files.
@@ -75,7 +75,7 @@ impl<
         + Copy
         + Send
         + 'static,
-> SystemFront<'a, R> {
+> SystemFrontend<'a, R> {
     /// Starts the threads of the streams. The image files are paced by the ticks of the world, the
     /// log files are behind the valve, and the world has this guard.
     pub fn start(
@@ -95,7 +95,7 @@ impl<
             Err(NotStarted::NoThread) => (None, None, None),
             Err(NotStarted::NoMemory) => return Err(Ending::Fault(Refusal::NoMemory)),
         };
-        Ok(SystemFront {
+        Ok(SystemFrontend {
             rt: *rt,
             service: *service,
             streams,
@@ -118,7 +118,7 @@ impl<
         ensures other { ending ≢ Ending.Ran → result ≡ ending }
         ensures fault { IsFault ending → IsFault result }
     {
-        let SystemFront {
+        let SystemFrontend {
             rt,
             service: _,
             streams,
@@ -155,7 +155,7 @@ impl<
         + Send
         + 'static,
     M: Method,
-> Front<M, FileDisk, Lines<R>> for SystemFront<'a, R> {
+> Frontend<M, FileDisk, Lines<R>> for SystemFrontend<'a, R> {
     ghost use Rattle.std.specs.Prelude.{false, []};
 
     ghost known = { false };
@@ -184,7 +184,12 @@ impl<
     }
 }
 
-type LetIn<R> = (Listener, Arc<Place, Global>, Lines<R>, Option<Receiver<()>>);
+type LetIn<R> = (
+    Listener,
+    Arc<Endpoint, Global>,
+    Lines<R>,
+    Option<Receiver<()>>,
+);
 
 // Lets the clients of an open world in, if there are threads for the lines of its server.
 fn let_in<
@@ -196,7 +201,7 @@ fn let_in<
         + AllocGlobal
         + Copy,
     M: Method,
->(front: &SystemFront<'_, R>, world: &Opened<M, FileDisk>) -> Result<LetIn<R>, Ending>
+>(front: &SystemFrontend<'_, R>, world: &Opened<M, FileDisk>) -> Result<LetIn<R>, Ending>
     ensures { IfErr result IsFault }
 {
     let Some(streams) = &front.streams else {
@@ -219,9 +224,9 @@ fn let_in<
 
 // The lines of the server of an open world. A thread looks at it from now on.
 fn lines_of<R: Wait + Clock + LookUp + Net + Files<File = File> + AllocGlobal + Copy, M: Method>(
-    front: &SystemFront<'_, R>,
+    front: &SystemFrontend<'_, R>,
     streams: &Streams,
-    place: Arc<Place, Global>,
+    place: Arc<Endpoint, Global>,
     world: &Opened<M, FileDisk>,
 ) -> Result<(Lines<R>, Option<Receiver<()>>), Ending>
     ensures { IfErr result IsFault }
@@ -283,7 +288,7 @@ type Guarded = (Option<AckedOut>, Option<GuardKeeper>);
 // The keeper of the guard of an open world, and the word by which it knows the acknowledged ticks.
 // The guard of the start is written. A world that has no guard gets one if that is asked for.
 fn guard_for<R: Wait + Clock + LookUp + Net + Files<File = File> + AllocGlobal + Copy, M: Method>(
-    front: &SystemFront<'_, R>,
+    front: &SystemFrontend<'_, R>,
     streams: &Streams,
     world: &Opened<M, FileDisk>,
     pulse: &Option<Arc<Pulse, Global>>,
@@ -339,14 +344,14 @@ fn newest_image<D: Disk>(images: &ImageWriter<D>) -> u64
 }
 
 // True if the world of a server has a guard, or gets one.
-fn is_guarded<R: Wait + Clock + Net + Files + Copy>(front: &SystemFront<'_, R>) -> bool {
+fn is_guarded<R: Wait + Clock + Net + Files + Copy>(front: &SystemFrontend<'_, R>) -> bool {
     front.guard.is_some() || front.service.guards
 }
 
 // The counts of the server of this world, if its figures are printed or it has a guard. The thread
 // of the figures begins with them.
 fn pulse_for<R: Wait + Clock + Net + Files + AllocGlobal + Copy, M: Method>(
-    front: &SystemFront<'_, R>,
+    front: &SystemFrontend<'_, R>,
     world: &Opened<M, FileDisk>,
 ) -> Result<Option<Arc<Pulse, Global>>, Ending>
     ensures { IfErr result IsFault }
@@ -393,14 +398,14 @@ fn started<
 fn listen<R: Net<Listener = TcpListener, Stream = TcpStream> + Files<File = File> + AllocGlobal>(
     rt: &R,
     address: Address<'_>,
-) -> Result<(Listener, Arc<Place, Global>), Ending>
+) -> Result<(Listener, Arc<Endpoint, Global>), Ending>
     ensures { IfErr result IsFault }
 {
     let (listener, place) = match address {
         Address::Port(port) => listen_at_port(rt, port)?,
         Address::Socket { path, mode } => {
             let (listener, file) = opened(rt.alloc(), "", path, listen_at(rt, path, mode))?;
-            (listener, Place::Socket(file))
+            (listener, Endpoint::Socket(file))
         }
     };
     match Arc::new(rt.alloc(), place) {
@@ -416,7 +421,7 @@ fn listen<R: Net<Listener = TcpListener, Stream = TcpStream> + Files<File = File
 fn listen_at_port<R: Net<Listener = TcpListener, Stream = TcpStream>>(
     rt: &R,
     port: u16,
-) -> Result<(Listener, Place), Ending>
+) -> Result<(Listener, Endpoint), Ending>
     ensures { IfErr result IsFault }
 {
     let address = SocketAddr::from((Ipv4Addr::LOCALHOST, port));
@@ -426,7 +431,7 @@ fn listen_at_port<R: Net<Listener = TcpListener, Stream = TcpStream>>(
         Err(error) => return Err(no_port(port, error)),
     };
     match listener.local_addr() {
-        Ok(address) => Ok((Listener::Tcp(listener), Place::Port(address))),
+        Ok(address) => Ok((Listener::Tcp(listener), Endpoint::Port(address))),
         Err(error) => Err(no_port(port, error)),
     }
 }

@@ -13,7 +13,7 @@ use world_folder::Ending;
 
 /// Prints the lines of a server of such a world, and lets its clients in. `W` hears of its workers
 /// and its sessions.
-pub trait Front<M: Method, D: Disk + Drop, W> {
+pub trait Frontend<M: Method, D: Disk + Drop, W> {
     /// True if it is known what this type prints. If it is false, contracts state nothing of that.
     ghost known: { Bool };
 
@@ -39,6 +39,6 @@ pub trait Front<M: Method, D: Disk + Drop, W> {
         ensures noted { IsTrue known → noted self.new ≡ noted self.old }
         ensures fault { IfErr result IsFault };
 
-    /// The parts of the server that are down so far, as `W` heard.
+    /// The parts of the server that are down so far.
     fn losses(&self) -> Losses;
 }
