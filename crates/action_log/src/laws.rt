@@ -18,7 +18,7 @@ ghost use Rattle.action_log.specs.Spellings.{LawOfSpellings, ReadsOnce, EachRead
 ghost use Rattle.action_log.specs.Progress.{begun, start_left, QueueFollows, end_of};
 ghost use Rattle.action_log.specs.Logs.{Logs, Writing, JournalIs, LogPlace, start_of, start_moves};
 ghost use Rattle.action_log.specs.Files.{FitsFiles};
-ghost use Rattle.action_log.specs.Stands.{Stands};
+ghost use Rattle.action_log.specs.Stands.{DisksStand};
 
 use disk_model::Disk;
 
@@ -78,13 +78,12 @@ pub fn log_queues()
 /// After the start its segment is then open, with the ticks that it counts.
 pub fn log_outcomes<D: Disk>()
     ensures reads { (keeper : Progress) (a b : _) (place : LogPlace)
-        → Stands keeper (D.content a) (D.content b) (D.may_leave a) (D.may_leave b) place
+        → DisksStand D.Disk keeper a b place
         → JournalIs place.journal (D.may_leave a) (D.may_leave b) }
     ensures fits { (keeper : Progress) (a b : _) (place : LogPlace)
-        → Stands keeper (D.content a) (D.content b) (D.may_leave a) (D.may_leave b) place
-        → FitsFiles keeper (D.content a) (D.content b) }
+        → DisksStand D.Disk keeper a b place → FitsFiles keeper (D.content a) (D.content b) }
     ensures left { (keeper : Progress) (a b : _) (place : LogPlace)
-        → Stands keeper (D.content a) (D.content b) (D.may_leave a) (D.may_leave b) place
+        → DisksStand D.Disk keeper a b place
         → (IsTrue keeper.starting ↔ (0 < place.left))
         × (keeper.down ≡ false → place.left ≡ start_left keeper) }
     ensures begins { (tick : ℕ) (shut_a shut_b : Bool) (a b : _) (before_a before_b : Segment)
@@ -94,19 +93,17 @@ pub fn log_outcomes<D: Disk>()
         → (shut_b ≡ true → HasShutGate (D.content b))
         → (shut_b ≡ false → HasNoShutGate (D.content b))
         → IsSegment (D.content a) before_a → IsSegment (D.content b) before_b
-        → Stands (begun tick shut_a shut_b) (D.content a) (D.content b)
-        (D.may_leave a) (D.may_leave b)
+        → DisksStand D.Disk (begun tick shut_a shut_b) a b
         (start_of tick before_a before_b (start_moves shut_a shut_b)) }
     ensures made { (tick : ℕ) (shut_a shut_b : Bool) (log_a log_b : List ℕ) → tick ≤ TICK_MAX
         → (shut_a ≡ true → HasShutGate log_a) → (shut_b ≡ true → HasShutGate log_b)
         → FitsFiles (begun tick shut_a shut_b) log_a log_b }
     ensures ready { (keeper : Progress) (a b : _) (logs : Logs) (left : ℕ)
-        → Stands keeper (D.content a) (D.content b) (D.may_leave a) (D.may_leave b)
-        (record { journal = Writing logs; left = left }) → keeper.phase ≡ Ready
+        → DisksStand D.Disk keeper a b (record { journal = Writing logs; left = left })
+        → keeper.phase ≡ Ready
         → (logs.pending ≡ []) × (logs.switch ≡ None) × (logs.base ≡ keeper.base) }
     ensures rests { (keeper : Progress) (a b : _) (place : LogPlace)
-        → Stands keeper (D.content a) (D.content b) (D.may_leave a) (D.may_leave b) place
-        → keeper.phase ≡ Ready
+        → DisksStand D.Disk keeper a b place → keeper.phase ≡ Ready
         → Only (D.content a) (D.may_leave a) × Only (D.content b) (D.may_leave b) }
     ensures settled { (keeper : Progress) (a b : List ℕ)
         → FitsFiles keeper a b → keeper.phase ≡ Ready

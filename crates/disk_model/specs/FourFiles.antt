@@ -4,6 +4,7 @@ use Rattle.std.specs.Prelude.{slice_index, slice_set}
 use Rattle.world_actions.specs.declared.refusal.Refusal.{Refusal}
 use Rattle.world_actions.specs.declared.refusal.Refusal.TheVariants.{Device}
 use Rattle.disk_model.specs.Disk.{last_count, Within}
+use Rattle.disk_model.specs.declared.disk.Disk.{Ghosts}
 use Rattle.disk_model.specs.declared.four_files.FourFiles.{FourFiles}
 use Rattle.disk_model.specs.declared.world_file.WorldFile.{WorldFile}
 use Rattle.disk_model.specs.declared.world_file.WorldFile.TheVariants.{ImageA, ImageB, LogA, LogB}
@@ -50,10 +51,9 @@ pub record EachFile {A B : Type 0} (firsts : FourFiles A) (seconds : FourFiles B
   pub log_b : R firsts.log_b seconds.log_b
 
 -- reads give the same bytes as before, and a crash leaves nothing that it could not leave before
-pub record KeepsFile {S : Type 0} (content : S → List ℕ) (may_leave : S → List ℕ → Type 0)
-    (old new : S) : Type 0 where
-  pub same_content : content new ≡ content old
-  pub crash : Within (may_leave old) (may_leave new)
+pub record KeepsFile {D : Type 0} (disk : Ghosts D) (old new : D) : Type 0 where
+  pub same_content : disk.content new ≡ disk.content old
+  pub crash : Within (disk.may_leave old) (disk.may_leave new)
 
 -- the count of faults after calls of which only the last one may have failed; a refusal for lack of
 -- memory isn't counted

@@ -110,7 +110,7 @@ impl<D: Disk> FourFiles<D> {
         ensures bytes { IsTrue D.honest → IfOk result (λ read.
             EachFile self.old read (λ disk bytes. bytes.items ≡ D.content disk)) }
         ensures kept { IsTrue D.honest
-            → EachFile self.old self.new (KeepsFile D.content D.may_leave) }
+            → EachFile self.old self.new (KeepsFile D.Disk) }
         ensures fault { result ≡ Err Refusal.Device
             → OneGrew (fault_counts D.faults self.old) (fault_counts D.faults self.new) }
         ensures no_fault { result ≢ Err Refusal.Device

@@ -6,6 +6,7 @@ use Rattle.world_ticks.specs.declared.tick.TheConstants.{TICK_MAX}
 use Rattle.world_ticks.specs.After.{after_actions, after_ticks}
 use Rattle.capture_core.specs.Content.{Content}
 use Rattle.disk_model.specs.Disk.{Only}
+use Rattle.disk_model.specs.declared.disk.Disk.{Ghosts}
 use Rattle.disk_model.specs.declared.four_files.FourFiles.{FourFiles}
 use Rattle.file_format.specs.Gate.{HasShutGate}
 use Rattle.file_format.specs.declared.slot.Slot.{Slot}
@@ -99,10 +100,10 @@ pub record FitLaws : Type 0 where
       → LogFits (begun tick shut_a shut_b) log_a log_b
   pub queue : (tick : ℕ) (shut_a shut_b : Bool) → QueueFollows (begun tick shut_a shut_b) [] × (end_of (begun tick shut_a shut_b) [] ≡ record { base = tick; count = 0 })
 
-pub begins_in_order : {D : Type 0} (file : D → List ℕ) (honest : Bool) → FitLaws → (newest : Option (Slot × ℕ)) (tick : ℕ) (words : List ℕ) (shut : FourFiles Bool)
-    (files : FourFiles D) (world : World D) → 1 ≤ length words → length words ≤ CELLS → tick ≤ TICK_MAX → (IsTrue honest → AreGates file files shut)
-    → (IsTrue honest → HoldsNewest (length words) newest (file files.image_a) (file files.image_b)) → Begins newest tick words shut files world → IsInOrder file honest world
-begins_in_order {D} file honest laws newest tick words shut files world some few most gates holds b =
+pub begins_in_order : {D : Type 0} (disk : Ghosts D) → FitLaws → (newest : Option (Slot × ℕ)) (tick : ℕ) (words : List ℕ) (shut : FourFiles Bool)
+    (files : FourFiles D) (world : World D) → 1 ≤ length words → length words ≤ CELLS → tick ≤ TICK_MAX → (IsTrue disk.honest → AreGates disk.content files shut)
+    → (IsTrue disk.honest → HoldsNewest (length words) newest (disk.content files.image_a) (disk.content files.image_b)) → Begins newest tick words shut files world → IsInOrder disk world
+begins_in_order {D} disk laws newest tick words shut files world some few most gates holds b =
     let cells = length words in
     let round = has_round newest tick in
     let q = laws.queue tick shut.log_a shut.log_b in
@@ -111,13 +112,13 @@ begins_in_order {D} file honest laws newest tick words shut files world some few
           ap (λ (k : ImageProgress). k.cells) b.images ∙ (started_cells round tick (made_keeper cells newest shut.image_a shut.image_b)
           ∙ ap length (sym (built_live words round world.content b.store)));
       left = subst (λ k. CellsLeft k world.content) (sym b.images) (cells_left cells tick newest shut.image_a shut.image_b round words world.content refl b.store);
-      images_fit = λ sure. subst (λ (k : ImageProgress). ImagesFit k (file world.files.image_a) (file world.files.image_b)) (sym b.images)
-          (subst (λ (f : FourFiles D). ImagesFit (started_keeper round tick (made_keeper cells newest shut.image_a shut.image_b)) (file f.image_a) (file f.image_b)) (sym b.files_are)
-          (started_fits round cells tick newest shut.image_a shut.image_b (file files.image_a) (file files.image_b) most
-          (laws.images cells newest shut.image_a shut.image_b (file files.image_a) (file files.image_b) some few (holds sure) (gates sure).image_a.yes (gates sure).image_b.yes)));
-      log_fits = λ sure. subst (λ (k : LogProgress). LogFits k (file world.files.log_a) (file world.files.log_b)) (sym b.log)
-          (subst (λ (f : FourFiles D). LogFits (begun tick shut.log_a shut.log_b) (file f.log_a) (file f.log_b)) (sym b.files_are)
-          (laws.log tick shut.log_a shut.log_b (file files.log_a) (file files.log_b) most (gates sure).log_a.yes (gates sure).log_b.yes));
+      images_fit = λ sure. subst (λ (k : ImageProgress). ImagesFit k (disk.content world.files.image_a) (disk.content world.files.image_b)) (sym b.images)
+          (subst (λ (f : FourFiles D). ImagesFit (started_keeper round tick (made_keeper cells newest shut.image_a shut.image_b)) (disk.content f.image_a) (disk.content f.image_b)) (sym b.files_are)
+          (started_fits round cells tick newest shut.image_a shut.image_b (disk.content files.image_a) (disk.content files.image_b) most
+          (laws.images cells newest shut.image_a shut.image_b (disk.content files.image_a) (disk.content files.image_b) some few (holds sure) (gates sure).image_a.yes (gates sure).image_b.yes)));
+      log_fits = λ sure. subst (λ (k : LogProgress). LogFits k (disk.content world.files.log_a) (disk.content world.files.log_b)) (sym b.log)
+          (subst (λ (f : FourFiles D). LogFits (begun tick shut.log_a shut.log_b) (disk.content f.log_a) (disk.content f.log_b)) (sym b.files_are)
+          (laws.log tick shut.log_a shut.log_b (disk.content files.log_a) (disk.content files.log_b) most (gates sure).log_a.yes (gates sure).log_b.yes));
       queue_follows = subst (λ k. QueueFollows k world.queue) (sym b.log) (subst (QueueFollows (begun tick shut.log_a shut.log_b)) (sym b.queue) q.0);
       queue_end = ap (λ k. end_of k world.queue) b.log ∙ (ap (end_of (begun tick shut.log_a shut.log_b)) b.queue ∙ (q.1
           ∙
@@ -129,11 +130,11 @@ begins_in_order {D} file honest laws newest tick words shut files world some few
 
 -- ---- in step
 
-module _ {D : Type 0} (file : D → List ℕ) (leaves : D → List ℕ → Type 0) (laws : KeeperLaws file leaves) where
+module _ {D : Type 0} (disk : Ghosts D) (laws : KeeperLaws disk) where
   begun_images : (cells : ℕ) (newest : Option (Slot × ℕ)) (tick : ℕ) (round : Bool) (images : ImageFiles) (shut : FourFiles Bool) (files : FourFiles D) → 1 ≤ cells → cells ≤ CELLS
-      → tick ≤ TICK_MAX → Only (file files.image_a) (leaves files.image_a) → Only (file files.image_b) (leaves files.image_b) → AreGates file files shut
-      → IsReported cells newest images (file files.image_a) (file files.image_b)
-      → DisksStand file leaves (started_keeper round tick (made_keeper cells newest shut.image_a shut.image_b)) (images_begun round tick images) files.image_a files.image_b
+      → tick ≤ TICK_MAX → Only (disk.content files.image_a) (disk.may_leave files.image_a) → Only (disk.content files.image_b) (disk.may_leave files.image_b) → AreGates disk.content files shut
+      → IsReported cells newest images (disk.content files.image_a) (disk.content files.image_b)
+      → DisksStand disk (started_keeper round tick (made_keeper cells newest shut.image_a shut.image_b)) (images_begun round tick images) files.image_a files.image_b
   begun_images cells newest tick false images shut files some few most only_a only_b gates reported =
       laws.made cells newest shut.image_a shut.image_b images files.image_a files.image_b some few only_a only_b gates.image_a gates.image_b reported
   begun_images cells newest tick true images shut files some few most only_a only_b gates reported =
@@ -141,29 +142,28 @@ module _ {D : Type 0} (file : D → List ℕ) (leaves : D → List ℕ → Type 
       (laws.made cells newest shut.image_a shut.image_b images files.image_a files.image_b some few only_a only_b gates.image_a gates.image_b reported)
 
   pub begins_follow : (first : List ℕ) (newest : Option (Slot × ℕ)) (tick : ℕ) (words : List ℕ) (shut : FourFiles Bool) (files : FourFiles D) (world : World D)
-      → Begins newest tick words shut files world → length first ≡ length words → 1 ≤ length words → length words ≤ CELLS → tick ≤ TICK_MAX → AreGates file files shut
-      → Only (file files.image_a) (leaves files.image_a) → Only (file files.image_b) (leaves files.image_b)
-      → Only (file files.log_a) (leaves files.log_a) → Only (file files.log_b) (leaves files.log_b)
-      → (images : ImageFiles) → IsReported (length words) newest images (file files.image_a) (file files.image_b)
-      → (before_a before_b : Segment) → IsSegment (file files.log_a) before_a → IsSegment (file files.log_b) before_b
-      → (ticks : List (List Action)) (acknowledged : ℕ)
+      → Begins newest tick words shut files world → length first ≡ length words → 1 ≤ length words → length words ≤ CELLS → tick ≤ TICK_MAX → AreGates disk.content files shut
+      → Only (disk.content files.image_a) (disk.may_leave files.image_a) → Only (disk.content files.image_b) (disk.may_leave files.image_b)
+      → Only (disk.content files.log_a) (disk.may_leave files.log_a) → Only (disk.content files.log_b) (disk.may_leave files.log_b)
+      → (images : ImageFiles) → IsReported (length words) newest images (disk.content files.image_a) (disk.content files.image_b)
+      → (before_a before_b : Segment) → IsSegment (disk.content files.log_a) before_a → IsSegment (disk.content files.log_b) before_b → (ticks : List (List Action)) (acknowledged : ℕ)
       → InStep first ticks acknowledged world.content (images_begun (has_round newest tick) tick images)
       (InStart (record { tick = tick; before_a = before_a; before_b = before_b; begun = false })) []
       → after_ticks first ticks ≡ Ok words → tick ≡ length ticks
-      → Keeps file leaves world first ticks acknowledged (images_begun (has_round newest tick) tick images) (start_of tick before_a before_b (start_moves shut.log_a shut.log_b))
+      → Keeps disk world first ticks acknowledged (images_begun (has_round newest tick) tick images) (start_of tick before_a before_b (start_moves shut.log_a shut.log_b))
   begins_follow first newest tick words shut files world b all some few most gates oa ob ola olb images reported before_a before_b reads_a reads_b ticks acknowledged step after count =
       let cells = length words in
       let round = has_round newest tick in
       let keeper = started_keeper round tick (made_keeper cells newest shut.image_a shut.image_b) in
       let begun_at = images_begun round tick images in
       let place = start_of tick before_a before_b (start_moves shut.log_a shut.log_b) in
-      let is : Follows file leaves world first ticks acknowledged = record {
+      let is : Follows disk world first ticks acknowledged = record {
         images = begun_at;
         place = place;
-        has_images = subst (λ (k : ImageProgress). DisksStand file leaves k begun_at world.files.image_a world.files.image_b) (sym b.images)
-            (subst (λ (f : FourFiles D). DisksStand file leaves keeper begun_at f.image_a f.image_b) (sym b.files_are)
+        has_images = subst (λ (k : ImageProgress). DisksStand disk k begun_at world.files.image_a world.files.image_b) (sym b.images)
+            (subst (λ (f : FourFiles D). DisksStand disk keeper begun_at f.image_a f.image_b) (sym b.files_are)
             (begun_images cells newest tick round images shut files some few most oa ob gates reported));
-        has_log = subst (λ (w : LogProgress × FourFiles D). HasLog file leaves (record world { log = w.0; files = w.1 }) place) (λ i. ((sym b.log) i, (sym b.files_are) i))
+        has_log = subst (λ (w : LogProgress × FourFiles D). HasLog disk (record world { log = w.0; files = w.1 }) place) (λ i. ((sym b.log) i, (sym b.files_are) i))
             (laws.begins tick shut.log_a shut.log_b files.log_a files.log_b before_a before_b most ola olb gates.log_a gates.log_b reads_a reads_b);
         cells = ap (λ (k : ImageProgress). k.cells) b.images ∙ (started_cells round tick (made_keeper cells newest shut.image_a shut.image_b) ∙ sym all);
         last = words;

@@ -8,6 +8,7 @@ use Rattle.world_actions.specs.declared.action.Action.{Action}
 use Rattle.world_actions.specs.declared.refusal.Refusal.{Refusal}
 use Rattle.world_actions.specs.declared.refusal.Refusal.TheVariants.{TickFull}
 use Rattle.world_actions.specs.Effect.{effect}
+use Rattle.disk_model.specs.declared.disk.Disk.{Ghosts}
 use Rattle.world_ticks.specs.declared.tick.TheConstants.{TICK_MAX, TICK_ACTIONS}
 use Rattle.world_ticks.specs.After.{and_then, after_actions, after_ticks}
 use Rattle.capture_core.specs.Content.{Content, Takes}
@@ -81,10 +82,10 @@ world_ended laws first ticks running last live e h =
 pub no_action : (last live : List ℕ) (running : List Action) → running ≡ [] → after_actions last running ≡ Ok live → last ≡ live
 no_action last live running none e = ok_injective last live (subst (λ r. after_actions last r ≡ Ok live) none e)
 
-module _ {D : Type 0} (file : D → List ℕ) (leaves : D → List ℕ → Type 0) where
+module _ {D : Type 0} (disk : Ghosts D) where
   -- fewer ticks are acknowledged too
   pub fewer_follow : (world : World D) (first : List ℕ) (ticks : List (List Action)) (acknowledged few : ℕ) → few ≤ acknowledged
-      → Follows file leaves world first ticks acknowledged → Follows file leaves world first ticks few
+      → Follows disk world first ticks acknowledged → Follows disk world first ticks few
   fewer_follow world first ticks acknowledged few fewer f = record {
     images = f.images;
     place = f.place;
@@ -103,7 +104,7 @@ module _ {D : Type 0} (file : D → List ℕ) (leaves : D → List ℕ → Type 
 
   -- a world follows these ticks, by these images and this log
   pub record Keeps (world : World D) (first : List ℕ) (ticks : List (List Action)) (acknowledged : ℕ) (images : ImageFiles) (place : LogPlace) : Type 0 where
-    pub follows : Follows file leaves world first ticks acknowledged
+    pub follows : Follows disk world first ticks acknowledged
     pub images_are : follows.images ≡ images
     pub place_is : follows.place ≡ place
 
@@ -118,13 +119,12 @@ module _ {D : Type 0} (file : D → List ℕ) (leaves : D → List ℕ → Type 
     pub in_step : InStep first ticks count world.content (Newest newest) (Writing logs) world.queue
 
   started_by : (world : World D) (first : List ℕ) (ticks : List (List Action)) (count : ℕ) (images : ImageFiles) (journal : Journal) (left : ℕ) → world.log.starting ≡ false
-      → HasLog file leaves world (record { journal = journal; left = left })
-      → InStep first ticks count world.content images journal world.queue → HasStarted world first ticks count images journal
+      → HasLog disk world (record { journal = journal; left = left }) → InStep first ticks count world.content images journal world.queue → HasStarted world first ticks count images journal
   started_by world first ticks count images (InStart start) left over stands w = absurd (let h : true ≡ false = sym stands.in_work ∙ over in cc)
   started_by world first ticks count (NoneYet images) (Writing logs) left over stands w = absurd w.phase
   started_by world first ticks count (Newest images) (Writing logs) left over stands w = record { newest = images; logs = logs; is_newest = refl; is_writing = refl; in_step = w }
 
-  pub has_started : (world : World D) (first : List ℕ) (ticks : List (List Action)) (acknowledged : ℕ) (f : Follows file leaves world first ticks acknowledged)
+  pub has_started : (world : World D) (first : List ℕ) (ticks : List (List Action)) (acknowledged : ℕ) (f : Follows disk world first ticks acknowledged)
       → world.log.starting ≡ false → HasStarted world first ticks f.count f.images f.place.journal
   has_started world first ticks acknowledged f over = started_by world first ticks f.count f.images f.place.journal f.place.left over f.has_log f.in_step
 
@@ -141,11 +141,11 @@ module _ {D : Type 0} (file : D → List ℕ) (leaves : D → List ℕ → Type 
   }
 
   pub actions_follow : EventLaws → (old new : World D) (actions : List Action) (first : List ℕ) (ticks : List (List Action)) (acknowledged : ℕ) → old.log.starting ≡ false
-      → DoesActions old actions new → (f : Follows file leaves old first ticks acknowledged) → Keeps new first ticks acknowledged f.images f.place
+      → DoesActions old actions new → (f : Follows disk old first ticks acknowledged) → Keeps new first ticks acknowledged f.images f.place
   actions_follow laws old new actions first ticks acknowledged over d f =
       let s = has_started old first ticks acknowledged f over in
       let next : World D = record old { content = new.content; running = old.running ++ actions } in
-      let is : Follows file leaves next first ticks acknowledged = record {
+      let is : Follows disk next first ticks acknowledged = record {
         images = f.images;
         place = f.place;
         has_images = f.has_images;
@@ -163,7 +163,7 @@ module _ {D : Type 0} (file : D → List ℕ) (leaves : D → List ℕ → Type 
       subst (λ w. Keeps w first ticks acknowledged f.images f.place) (sym d.rest) (record { follows = is; images_are = refl; place_is = refl })
 
   pub end_follows : EventLaws → (old new : World D) (first : List ℕ) (ticks : List (List Action)) (acknowledged : ℕ) → old.log.starting ≡ false → EndsTick old new
-      → (f : Follows file leaves old first ticks acknowledged) → Keeps new first (ticks ++ old.running ∷ []) acknowledged f.images f.place
+      → (f : Follows disk old first ticks acknowledged) → Keeps new first (ticks ++ old.running ∷ []) acknowledged f.images f.place
   end_follows laws old new first ticks acknowledged over d f =
       let tick = d.0 in
       let queue = old.queue ++ records.Tick tick ∷ [] in
@@ -177,7 +177,7 @@ module _ {D : Type 0} (file : D → List ℕ) (leaves : D → List ℕ → Type 
         store = laws.goes_on.ticks first ticks (old.running ∷ []) old.content (Newest s.newest) s.in_step.store;
         phase = subst (λ t. IsKept first (ticks ++ t ∷ []) f.count s.newest s.logs queue) d.1 (laws.keeps.tick_ends first ticks f.count s.newest s.logs old.queue kept tick old.content.live goes);
       } in
-      let is : Follows file leaves next first more acknowledged = record {
+      let is : Follows disk next first more acknowledged = record {
         images = f.images;
         place = f.place;
         has_images = f.has_images;
@@ -198,9 +198,9 @@ module _ {D : Type 0} (file : D → List ℕ) (leaves : D → List ℕ → Type 
   -- ---- a mark
 
   -- between two ticks, with no round in work, and with ticks that the newest image lacks
-  pub mark_follows : EventLaws → KeeperLaws file leaves → (old new : World D) (first : List ℕ) (ticks : List (List Action)) (acknowledged : ℕ) → old.log.starting ≡ false → old.running ≡ []
+  pub mark_follows : EventLaws → KeeperLaws disk → (old new : World D) (first : List ℕ) (ticks : List (List Action)) (acknowledged : ℕ) → old.log.starting ≡ false → old.running ≡ []
       → old.images.phase ≡ Idle → (old.ended ≡ newest_tick old.images.newest → ⊥) → old.images.cells ≡ length old.content.live → old.ended ≤ TICK_MAX → BeginsRound old new
-      → (f : Follows file leaves old first ticks acknowledged) → Keeps new first ticks acknowledged (with_round old.ended f.images) f.place
+      → (f : Follows disk old first ticks acknowledged) → Keeps new first ticks acknowledged (with_round old.ended f.images) f.place
   mark_follows laws keepers old new first ticks acknowledged over none idle news cells most d f =
       let s = has_started old first ticks acknowledged f over in
       let queue = old.queue ++ records.Switch old.ended ∷ [] in
@@ -215,7 +215,7 @@ module _ {D : Type 0} (file : D → List ℕ) (leaves : D → List ℕ → Type 
       let on : InStep first ticks f.count new.content (with_round old.ended (Newest s.newest)) (Writing s.logs) queue =
       subst (λ n. InStep first ticks f.count new.content (with_round n (Newest s.newest)) (Writing s.logs) (old.queue ++ records.Switch n ∷ [])) (sym f.ended)
       (laws.goes_on.mark first ticks f.count s.newest s.logs old.queue old.content new.content no_round above (f.after_ended ∙ ap (λ w. Ok w) same) (sym cells ∙ f.cells) d.0 s.in_step) in
-      let is : Follows file leaves next first ticks acknowledged = record {
+      let is : Follows disk next first ticks acknowledged = record {
         images = with_round old.ended f.images;
         place = f.place;
         has_images = keepers.begun old.images old.ended f.images old.files.image_a old.files.image_b idle most f.has_images;
@@ -237,38 +237,38 @@ module _ {D : Type 0} (file : D → List ℕ) (leaves : D → List ℕ → Type 
 
   -- the images after a step, and the ticks that are followed; an image that is opened acknowledges
   pub record AfterImages (old : World D) (given : ImageAnswer) (new : World D) (first : List ℕ) (ticks : List (List Action)) (acknowledged : ℕ)
-      (f : Follows file leaves old first ticks acknowledged) : Type 0 where
-    pub follows : Follows file leaves new first ticks (acknowledged_opened acknowledged given)
+      (f : Follows disk old first ticks acknowledged) : Type 0 where
+    pub follows : Follows disk new first ticks (acknowledged_opened acknowledged given)
     pub steps : StepsImages Takes (length first) f.images given follows.images old.content new.content
     pub place : follows.place ≡ f.place
 
   -- the log after a step, whose receipt acknowledges
   pub record AfterLog (old : World D) (given : LogAnswer) (new : World D) (first : List ℕ) (ticks : List (List Action)) (acknowledged : ℕ)
-      (f : Follows file leaves old first ticks acknowledged) : Type 0 where
-    pub follows : Follows file leaves new first ticks (acknowledged_after acknowledged given)
+      (f : Follows disk old first ticks acknowledged) : Type 0 where
+    pub follows : Follows disk new first ticks (acknowledged_after acknowledged given)
     pub steps : JournalStep f.place old.queue given follows.place new.queue
     pub images : follows.images ≡ f.images
 
   -- the log waits for nothing after the start, or with no round in work
-  waits_not : (world : World D) (journal : Journal) (left : ℕ) (images : ImageFiles) → HasLog file leaves world (record { journal = journal; left = left })
+  waits_not : (world : World D) (journal : Journal) (left : ℕ) (images : ImageFiles) → HasLog disk world (record { journal = journal; left = left })
       → (world.log.starting ≡ false) ⊎ (round_in images ≡ None) → NoneWaitedFor journal images
   waits_not world (InStart start) left images stands (inl over) = absurd (let e : true ≡ false = sym stands.in_work ∙ over in cc)
   waits_not world (InStart start) left images stands (inr none) = none
   waits_not world (Writing logs) left images stands h = tt
 
   -- the tick of an open image is covered
-  pub cover_follows : EventLaws → KeeperLaws file leaves → (tick : ℕ) (old : World D) (given : LogAnswer) (new : World D) (first : List ℕ) (ticks : List (List Action)) (acknowledged : ℕ)
-      → old.log.starting ≡ false → tick ≤ newest_tick old.images.newest → CoversQueue tick old given new → (f : Follows file leaves old first ticks acknowledged)
+  pub cover_follows : EventLaws → KeeperLaws disk → (tick : ℕ) (old : World D) (given : LogAnswer) (new : World D) (first : List ℕ) (ticks : List (List Action)) (acknowledged : ℕ)
+      → old.log.starting ≡ false → tick ≤ newest_tick old.images.newest → CoversQueue tick old given new → (f : Follows disk old first ticks acknowledged)
       → Keeps new first ticks (acknowledged_after acknowledged given) f.images f.place × ReceiptIs given ticks new.queue
   cover_follows laws keepers tick old given new first ticks acknowledged over opened d f =
       let s = has_started old first ticks acknowledged f over in
       let next : World D = record old { queue = new.queue } in
       let newest : newest_tick old.images.newest ≡ s.newest.tick =
       ap newest_tick (keepers.newest old.images f.images old.files.image_a old.files.image_b f.has_images ∙ ap newest_in s.is_newest) in
-      let has_log = subst (λ j. HasLog file leaves old (record { journal = j; left = f.place.left })) s.is_writing f.has_log in
+      let has_log = subst (λ j. HasLog disk old (record { journal = j; left = f.place.left })) s.is_writing f.has_log in
       let step = d.step s.logs (λ ready. let r = keepers.ready old.log old.files.log_a old.files.log_b s.logs f.place.left has_log ready in (r.0, r.1)) in
       let on = laws.goes_on.cover first ticks f.count old.content s.newest s.logs old.queue tick given new.queue (omega (arith, opened, newest)) step s.in_step in
-      let is : Follows file leaves next first ticks (acknowledged_after acknowledged given) = record {
+      let is : Follows disk next first ticks (acknowledged_after acknowledged given) = record {
         images = f.images;
         place = f.place;
         has_images = f.has_images;
@@ -290,10 +290,9 @@ module _ {D : Type 0} (file : D → List ℕ) (leaves : D → List ℕ → Type 
 
   pub image_follows : EventLaws → (old new : World D) (given : ImageAnswer) (first : List ℕ) (ticks : List (List Action)) (acknowledged : ℕ)
       → new ≡ record old { content = new.content; images = new.images; files = record old.files { image_a = new.files.image_a; image_b = new.files.image_b } }
-      → ((images : ImageFiles) → HasImages file leaves old images
-      → (next : ImageFiles) × HasImages file leaves new next × StepsImages Takes old.images.cells images given next old.content new.content)
+      → ((images : ImageFiles) → HasImages disk old images → (next : ImageFiles) × HasImages disk new next × StepsImages Takes old.images.cells images given next old.content new.content)
       → new.images.cells ≡ old.images.cells → new.content.live ≡ old.content.live
-      → (f : Follows file leaves old first ticks acknowledged) → AfterImages old given new first ticks acknowledged f
+      → (f : Follows disk old first ticks acknowledged) → AfterImages old given new first ticks acknowledged f
   image_follows laws old new given first ticks acknowledged rest stands cells live f =
       let s = stands f.images f.has_images in
       let steps : StepsImages Takes (length first) f.images given s.0 old.content new.content = subst (λ n. StepsImages Takes n f.images given s.0 old.content new.content) f.cells s.2 in
@@ -319,8 +318,7 @@ module _ {D : Type 0} (file : D → List ℕ) (leaves : D → List ℕ → Type 
 
   pub log_follows : EventLaws → (old new : World D) (given : LogAnswer) (first : List ℕ) (ticks : List (List Action)) (acknowledged : ℕ)
       → new ≡ record old { queue = new.queue; log = new.log; files = record old.files { log_a = new.files.log_a; log_b = new.files.log_b } }
-      → ((place : LogPlace) → HasLog file leaves old place → (next : LogPlace) × HasLog file leaves new next × JournalStep place old.queue given next new.queue)
-      → (f : Follows file leaves old first ticks acknowledged)
+      → ((place : LogPlace) → HasLog disk old place → (next : LogPlace) × HasLog disk new next × JournalStep place old.queue given next new.queue) → (f : Follows disk old first ticks acknowledged)
       → (old.log.starting ≡ false) ⊎ (round_in f.images ≡ None) → AfterLog old given new first ticks acknowledged f
   log_follows laws old new given first ticks acknowledged rest stands f turn =
       let s = stands f.place f.has_log in

@@ -2,6 +2,7 @@
 use Rattle.std.proofs.Common.{◌≡◌, ◌↔◌, ℕ, zero, suc, Bool, IsTrue, ◌-◌, ◌<◌, ◌≤◌, ◌⊎◌, inl, inr, List, [], ◌∷◌, ◌++◌, length, true, false, None, Ok, refl, sym, ap, subst, ◌∙◌, arith}
 use Rattle.std.proofs.lemmas.List.{length-append, take_all}
 use Rattle.world_actions.specs.declared.action.Action.{Action}
+use Rattle.disk_model.specs.declared.disk.Disk.{Ghosts}
 use Rattle.world_ticks.specs.After.{after_ticks}
 use Rattle.image_files.specs.declared.phase.Phase.TheVariants.{Idle}
 use Rattle.image_files.specs.Images.{Images, ImageFiles, Newest, round_in}
@@ -85,14 +86,14 @@ none_left starting (suc left) over is = absurd (let yes : IsTrue starting = is.1
 
 -- ---- the world
 
-module _ {D : Type 0} (file : D → List ℕ) (leaves : D → List ℕ → Type 0) where
+module _ {D : Type 0} (disk : Ghosts D) where
   -- once the log has no work left, each ended tick is acknowledged
-  pub all_follow : EventLaws → KeeperLaws file leaves → (world : World D) (first : List ℕ) (ticks : List (List Action)) (acknowledged : ℕ) → world.log.starting ≡ false
-      → work_of world.log world.queue ≡ 0 → Follows file leaves world first ticks acknowledged → Follows file leaves world first ticks world.ended
+  pub all_follow : EventLaws → KeeperLaws disk → (world : World D) (first : List ℕ) (ticks : List (List Action)) (acknowledged : ℕ) → world.log.starting ≡ false
+      → work_of world.log world.queue ≡ 0 → Follows disk world first ticks acknowledged → Follows disk world first ticks world.ended
   all_follow laws keepers world first ticks acknowledged over rests f =
       let idle = none_waits world.log world.queue rests in
-      let s = has_started file leaves world first ticks acknowledged f over in
-      let has_log = subst (λ j. HasLog file leaves world (record { journal = j; left = f.place.left })) s.is_writing f.has_log in
+      let s = has_started disk world first ticks acknowledged f over in
+      let has_log = subst (λ j. HasLog disk world (record { journal = j; left = f.place.left })) s.is_writing f.has_log in
       let ready = keepers.ready world.log world.files.log_a world.files.log_b s.logs f.place.left has_log idle.0 in
       let on = laws.goes_on.all_acknowledged first ticks f.count world.content (Newest s.newest) s.logs ready.0
       (subst (λ q. InStep first ticks f.count world.content (Newest s.newest) (Writing s.logs) q) idle.1 s.in_step) in
@@ -119,19 +120,19 @@ module _ {D : Type 0} (file : D → List ℕ) (leaves : D → List ℕ → Type 
     pub images : Images
     pub logs : Logs
     pub settled : IsSettled first ticks world.content.live images logs
-    pub has_images : HasImages file leaves world (Newest images)
-    pub has_log : HasLog file leaves world (record { journal = Writing logs; left = 0 })
+    pub has_images : HasImages disk world (Newest images)
+    pub has_log : HasLog disk world (record { journal = Writing logs; left = 0 })
 
-  pub settles : KeeperLaws file leaves → (world : World D) (first : List ℕ) (ticks : List (List Action)) (acknowledged : ℕ) → Follows file leaves world first ticks acknowledged
+  pub settles : KeeperLaws disk → (world : World D) (first : List ℕ) (ticks : List (List Action)) (acknowledged : ℕ) → Follows disk world first ticks acknowledged
       → world.log.starting ≡ false → world.running ≡ [] → world.images.phase ≡ Idle → world.log.phase ≡ Ready → world.queue ≡ [] → world.log.base ≡ world.ended → Settles world first ticks
   settles keepers world first ticks acknowledged f over still idle ready none base =
       let now = world.content in
       let files = world.files in
-      let s = has_started file leaves world first ticks acknowledged f over in
+      let s = has_started disk world first ticks acknowledged f over in
       let left : f.place.left ≡ 0 = none_left world.log.starting f.place.left over (keepers.left world.log files.log_a files.log_b f.place f.has_log) in
-      let has_log : HasLog file leaves world (record { journal = Writing s.logs; left = 0 }) = subst (HasLog file leaves world) (λ i. record { journal = s.is_writing i; left = left i }) f.has_log in
+      let has_log : HasLog disk world (record { journal = Writing s.logs; left = 0 }) = subst (HasLog disk world) (λ i. record { journal = s.is_writing i; left = left i }) f.has_log in
       let log = keepers.ready world.log files.log_a files.log_b s.logs 0 has_log ready in
-      let has_images : HasImages file leaves world (Newest s.newest) = subst (HasImages file leaves world) s.is_newest f.has_images in
+      let has_images : HasImages disk world (Newest s.newest) = subst (HasImages disk world) s.is_newest f.has_images in
       let kept : IsKept first ticks f.count s.newest s.logs [] = subst (λ q. IsKept first ticks f.count s.newest s.logs q) none s.in_step.phase in
       let no_round : s.newest.round ≡ None = keepers.idle world.images (Newest s.newest) files.image_a files.image_b has_images idle in
       let tick : s.newest.tick ≡ length ticks = newest_is_base first ticks f.count s.newest s.logs kept no_round log.1 ∙ (log.2 ∙ (base ∙ f.ended)) in

@@ -3,6 +3,7 @@ use Rattle.std.proofs.Common.{◌≡◌, ◌↔◌, ◌⊎◌, ◌<◌, inl, inr
 use Rattle.world_actions.specs.declared.action.Action.{Action}
 use Rattle.file_format.specs.declared.slot.Slot.TheVariants.{A}
 use Rattle.disk_model.specs.Disk.{Call}
+use Rattle.disk_model.specs.declared.disk.Disk.{Ghosts}
 use Rattle.disk_model.specs.declared.four_files.FourFiles.{FourFiles}
 use Rattle.image_files.specs.declared.answer.ImageAnswer.{ImageAnswer}
 use Rattle.image_files.specs.declared.phase.Phase.{Phase}
@@ -41,20 +42,17 @@ pub first_over : (keeper : Progress) (queue : List Record) → IsFirst keeper qu
 first_over keeper queue (none, inl starting) over = absurd (let e : true ≡ false = sym starting ∙ over in cc)
 first_over keeper queue (none, inr (slot, ready)) over = slot
 
-module _ {D : Type 0} (file : D → List ℕ) (leaves : D → List ℕ → Type 0) (honest : Bool) (faults : D → ℕ) (called : D → Call → Bool → D → Type 0) where
+module _ {D : Type 0} (disk : Ghosts D) where
   -- a step of the fields of an engine is one of its world
-  pub image_step_at : (was old : World D) (given : ImageAnswer) (new : World D) → was ≡ old → TakesImageStep file leaves honest faults called was given new
-      → TakesImageStep file leaves honest faults called old given new
-  image_step_at was old given new same step = subst (λ world. TakesImageStep file leaves honest faults called world given new) same step
+  pub image_step_at : (was old : World D) (given : ImageAnswer) (new : World D) → was ≡ old → TakesImageStep disk was given new → TakesImageStep disk old given new
+  image_step_at was old given new same step = subst (λ world. TakesImageStep disk world given new) same step
 
-  pub log_step_at : (was old : World D) (given : LogAnswer) (new : World D) → was ≡ old → TakesLogStep file leaves honest faults called was given new
-      → TakesLogStep file leaves honest faults called old given new
-  log_step_at was old given new same step = subst (λ world. TakesLogStep file leaves honest faults called world given new) same step
+  pub log_step_at : (was old : World D) (given : LogAnswer) (new : World D) → was ≡ old → TakesLogStep disk was given new → TakesLogStep disk old given new
+  log_step_at was old given new same step = subst (λ world. TakesLogStep disk world given new) same step
 
-module _ {D : Type 0} (file : D → List ℕ) (leaves : D → List ℕ → Type 0) (honest : Bool) (faults : D → ℕ) where
   -- ---- the image keeper
 
-  pub no_image_step : (world : World D) → RunsImages file leaves honest faults world world
+  pub no_image_step : (world : World D) → RunsImages disk world world
   no_image_step world = record {
     rest = refl;
     cells = refl;
@@ -64,23 +62,23 @@ module _ {D : Type 0} (file : D → List ℕ) (leaves : D → List ℕ → Type 
     follows = λ sure first ticks acknowledged f. f;
   }
 
-  pub image_then : (called : D → Call → Bool → D → Type 0) → EventLaws → (old mid : World D) (given : ImageAnswer) (new : World D) → 0 < left_of mid.images
-      → RunsImages file leaves honest faults old mid → TakesImageStep file leaves honest faults called mid given new → RunsImages file leaves honest faults old new
-  image_then called laws old mid given new some r d = record {
+  pub image_then : EventLaws → (old mid : World D) (given : ImageAnswer) (new : World D) → 0 < left_of mid.images
+      → RunsImages disk old mid → TakesImageStep disk mid given new → RunsImages disk old new
+  image_then laws old mid given new some r d = record {
     rest = d.rest ∙ (λ i. record (r.rest i) { content = new.content; images = new.images; files = record (r.rest i).files { image_a = new.files.image_a; image_b = new.files.image_b } });
     cells = d.cells ∙ r.cells;
     live = d.live ∙ r.live;
     ticks = tick_step given old.images mid.images new.images d.idle d.goes_on d.down d.ended some r.ticks;
-    counts = image_faults (old.images.phase ≡ Down → ⊥) given mid.images new.images.phase (faults old.files.image_a) (faults mid.files.image_a) (faults new.files.image_a)
-        (faults old.files.image_b) (faults mid.files.image_b) (faults new.files.image_b) r.counts some d.down d.cause;
+    counts = image_faults (old.images.phase ≡ Down → ⊥) given mid.images new.images.phase (disk.faults old.files.image_a) (disk.faults mid.files.image_a) (disk.faults new.files.image_a)
+        (disk.faults old.files.image_b) (disk.faults mid.files.image_b) (disk.faults new.files.image_b) r.counts some d.down d.cause;
     follows = λ sure first ticks acknowledged f.
-        (let on = image_follows file leaves laws mid new given first ticks acknowledged d.rest (d.stands sure) d.cells d.live (r.follows sure first ticks acknowledged f) in
-        fewer_follow file leaves new first ticks (acknowledged_opened acknowledged given) acknowledged (opened_counts acknowledged given) on.follows);
+        (let on = image_follows disk laws mid new given first ticks acknowledged d.rest (d.stands sure) d.cells d.live (r.follows sure first ticks acknowledged f) in
+        fewer_follow disk new first ticks (acknowledged_opened acknowledged given) acknowledged (opened_counts acknowledged given) on.follows);
   }
 
   -- ---- the log keeper
 
-  pub no_log_step : (world : World D) → RunsLog file leaves honest faults world world
+  pub no_log_step : (world : World D) → RunsLog disk world world
   no_log_step world = record {
     rest = refl;
     started = λ over. over;
@@ -90,25 +88,24 @@ module _ {D : Type 0} (file : D → List ℕ) (leaves : D → List ℕ → Type 
   }
 
   -- its turn stays its turn
-  still_turn : (old mid : World D) → RunsLog file leaves honest faults old mid → (old.log.starting ≡ false) ⊎ (old.images.phase ≡ Idle) → (mid.log.starting ≡ false) ⊎ (mid.images.phase ≡ Idle)
+  still_turn : (old mid : World D) → RunsLog disk old mid → (old.log.starting ≡ false) ⊎ (old.images.phase ≡ Idle) → (mid.log.starting ≡ false) ⊎ (mid.images.phase ≡ Idle)
   still_turn old mid r (inl over) = inl (r.started over)
   still_turn old mid r (inr idle) = inr (ap (λ (w : World D). w.images.phase) r.rest ∙ idle)
 
-  pub log_then : (called : D → Call → Bool → D → Type 0) → EventLaws → KeeperLaws file leaves → (old mid : World D) (given : LogAnswer) (new : World D) → 0 < work_of mid.log mid.queue
-      → RunsLog file leaves honest faults old mid → TakesLogStep file leaves honest faults called mid given new → RunsLog file leaves honest faults old new
-  log_then called laws keepers old mid given new some r d = record {
+  pub log_then : EventLaws → KeeperLaws disk → (old mid : World D) (given : LogAnswer) (new : World D) → 0 < work_of mid.log mid.queue
+      → RunsLog disk old mid → TakesLogStep disk mid given new → RunsLog disk old new
+  log_then laws keepers old mid given new some r d = record {
     rest = d.rest ∙ (λ i. record (r.rest i) { queue = new.queue; log = new.log; files = record (r.rest i).files { log_a = new.files.log_a; log_b = new.files.log_b } });
     started = λ over. d.started (r.started over);
     first = λ starting none. first_step mid.log new.log mid.queue new.queue (r.first starting none) some d.front d.first;
-    counts = log_faults (old.log.down ≡ false) given mid.log.down new.log.down (faults old.files.log_a) (faults mid.files.log_a) (faults new.files.log_a)
-        (faults old.files.log_b) (faults mid.files.log_b) (faults new.files.log_b) r.counts d.down d.cause d.no_fault
-        (λ down. let e = d.rests (inr down) in (ap (λ (k : Progress). k.down) e.0 ∙ down, ap faults e.2, ap faults e.3));
+    counts = log_faults (old.log.down ≡ false) given mid.log.down new.log.down (disk.faults old.files.log_a) (disk.faults mid.files.log_a) (disk.faults new.files.log_a)
+        (disk.faults old.files.log_b) (disk.faults mid.files.log_b) (disk.faults new.files.log_b) r.counts d.down d.cause d.no_fault
+        (λ down. let e = d.rests (inr down) in (ap (λ (k : Progress). k.down) e.0 ∙ down, ap disk.faults e.2, ap disk.faults e.3));
     follows = λ sure turn first ticks acknowledged f.
         let now = r.follows sure turn first ticks acknowledged f in
-        let on = log_follows file leaves laws mid new given first ticks acknowledged d.rest (d.stands sure) now
-        (elim (still_turn old mid r turn) [
+        let on = log_follows disk laws mid new given first ticks acknowledged d.rest (d.stands sure) now (elim (still_turn old mid r turn) [
           | inl over ↦ inl over
           | inr idle ↦ inr (keepers.idle mid.images now.images mid.files.image_a mid.files.image_b now.has_images idle)
         ]) in
-        fewer_follow file leaves new first ticks (acknowledged_after acknowledged given) acknowledged (logged_counts acknowledged given) on.follows;
+        fewer_follow disk new first ticks (acknowledged_after acknowledged given) acknowledged (logged_counts acknowledged given) on.follows;
   }

@@ -2,6 +2,7 @@
 use Rattle.std.proofs.Common.{◌≡◌, ◌≤◌, ℕ, false, List, length, take, Some, None, refl, sym, ap, subst, ◌∙◌, arith}
 use Rattle.std.proofs.lemmas.List.{length-take, take_all, take-take}
 use Rattle.world_actions.specs.declared.action.Action.{Action}
+use Rattle.disk_model.specs.declared.disk.Disk.{Ghosts}
 use Rattle.world_ticks.specs.After.{after_ticks}
 use Rattle.image_files.specs.Image.{Image, Closed, Bad, Open, image_of}
 use Rattle.image_files.specs.Images.{ImageFiles, NoneYet, Newest, ImageFilesAre, newest_in}
@@ -63,27 +64,27 @@ pub fewer_sound : (a b la lb : List ℕ → Type 0) (first : List ℕ) (ticks : 
 fewer_sound a b la lb first ticks acknowledged count fewer s =
     sound_of_more a b la lb first ticks (length ticks) acknowledged count fewer (subst (λ t. IsSound a b la lb first t count) (sym (take_all (length ticks) ticks (omega arith))) s)
 
-module _ {D : Type 0} (file : D → List ℕ) (leaves : D → List ℕ → Type 0) (laws : KeeperLaws file leaves) (world : World D) (first : List ℕ) (ticks : List (List Action)) (acknowledged : ℕ)
-    (f : Follows file leaves world first ticks acknowledged) where
+module _ {D : Type 0} (disk : Ghosts D) (laws : KeeperLaws disk) (world : World D) (first : List ℕ) (ticks : List (List Action)) (acknowledged : ℕ)
+    (f : Follows disk world first ticks acknowledged) where
   -- the files of a world are safe
-  pub follows_safe : IsSafe f.images (leaves world.files.image_a) (leaves world.files.image_b) (leaves world.files.log_a) (leaves world.files.log_b) first ticks f.count
+  pub follows_safe : IsSafe f.images (disk.may_leave world.files.image_a) (disk.may_leave world.files.image_b) (disk.may_leave world.files.log_a) (disk.may_leave world.files.log_b) first ticks f.count
   follows_safe =
       let files = world.files in
       laws.safe files.image_a files.image_b files.log_a files.log_b first ticks f.count world.content f.images f.place.journal world.queue f.in_step
-      (subst (λ n. ImageFilesAre n f.images (leaves files.image_a) (leaves files.image_b)) f.cells (laws.images_are world.images f.images files.image_a files.image_b f.has_images))
+      (subst (λ n. ImageFilesAre n f.images (disk.may_leave files.image_a) (disk.may_leave files.image_b)) f.cells (laws.images_are world.images f.images files.image_a files.image_b f.has_images))
       (laws.reads world.log files.log_a files.log_b f.place f.has_log)
 
-  pub follows_sound : HasNewest world.images → AreSound file leaves world.files first ticks acknowledged
+  pub follows_sound : HasNewest world.images → AreSound disk world.files first ticks acknowledged
   follows_sound has =
       let files = world.files in
-      fewer_sound (leaves files.image_a) (leaves files.image_b) (leaves files.log_a) (leaves files.log_b) first ticks acknowledged f.count f.at_least
-      (safe_is_sound f.images (leaves files.image_a) (leaves files.image_b) (leaves files.log_a) (leaves files.log_b) first ticks f.count
+      fewer_sound (disk.may_leave files.image_a) (disk.may_leave files.image_b) (disk.may_leave files.log_a) (disk.may_leave files.log_b) first ticks acknowledged f.count f.at_least
+      (safe_is_sound f.images (disk.may_leave files.image_a) (disk.may_leave files.image_b) (disk.may_leave files.log_a) (disk.may_leave files.log_b) first ticks f.count
       (λ none. has (laws.newest world.images f.images files.image_a files.image_b f.has_images ∙ none)) follows_safe)
 
   -- after the start there is an image
-  pub started_sound : world.log.starting ≡ false → AreSound file leaves world.files first ticks acknowledged
+  pub started_sound : world.log.starting ≡ false → AreSound disk world.files first ticks acknowledged
   started_sound over =
-      let s = has_started file leaves world first ticks acknowledged f over in
+      let s = has_started disk world first ticks acknowledged f over in
       follows_sound
       (λ none.
       (let e : Some (s.newest.slot, s.newest.tick) ≡ None = sym (laws.newest world.images f.images world.files.image_a world.files.image_b f.has_images ∙ ap newest_in s.is_newest) ∙ none in

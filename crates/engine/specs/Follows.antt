@@ -3,6 +3,7 @@ use Rattle.std.specs.Prelude.{◌≡◌, ◌≤◌, ℕ, List, [], length, Ok}
 use Rattle.world_actions.specs.declared.action.Action.{Action}
 use Rattle.world_ticks.specs.After.{after_actions, after_ticks}
 use Rattle.disk_model.specs.declared.four_files.FourFiles.{FourFiles}
+use Rattle.disk_model.specs.declared.disk.Disk.{Ghosts}
 use Rattle.image_files.specs.Images.{ImageFiles}
 use Rattle.action_log.specs.Logs.{Journal, InStart, Writing, LogPlace}
 use Rattle.recovery.specs.Sound.{IsSound}
@@ -14,7 +15,7 @@ abbrev pub NoneInStart : Journal → (running : List Action) → Type 0
 NoneInStart (InStart start) running = running ≡ []
 NoneInStart (Writing logs) running = Unit {0}
 
-module _ {D : Type 0} (file : D → List ℕ) (leaves : D → List ℕ → Type 0) where
+module _ {D : Type 0} (disk : Ghosts D) where
   -- From these first words these ticks have ended, and the words are those after them and the
   -- running one. So many ticks at least are acknowledged. Store, keepers, queue and files are
   -- in step with them.
@@ -22,8 +23,8 @@ module _ {D : Type 0} (file : D → List ℕ) (leaves : D → List ℕ → Type 
       (acknowledged : ℕ) : Type 0 where
     pub images : ImageFiles
     pub place : LogPlace
-    pub has_images : HasImages file leaves world images
-    pub has_log : HasLog file leaves world place
+    pub has_images : HasImages disk world images
+    pub has_log : HasLog disk world place
     pub cells : world.images.cells ≡ length first
     pub last : List ℕ
     pub after_ended : after_ticks first ticks ≡ Ok last
@@ -46,5 +47,5 @@ module _ {D : Type 0} (file : D → List ℕ) (leaves : D → List ℕ → Type 
   abbrev pub AreSound : FourFiles D → (first : List ℕ) → List (List Action)
       → (acknowledged : ℕ) → Type 0
   AreSound files first ticks acknowledged =
-      IsSound (leaves files.image_a) (leaves files.image_b) (leaves files.log_a)
-      (leaves files.log_b) first ticks acknowledged
+      IsSound (disk.may_leave files.image_a) (disk.may_leave files.image_b)
+      (disk.may_leave files.log_a) (disk.may_leave files.log_b) first ticks acknowledged

@@ -4,6 +4,7 @@ use Rattle.std.specs.Prelude.{List, [], length, slice_index}
 use Rattle.file_format.specs.declared.slot.Slot.{Slot}
 use Rattle.file_format.specs.declared.slot.Slot.TheVariants.{A}
 use Rattle.disk_model.specs.Disk.{Grew}
+use Rattle.disk_model.specs.declared.disk.Disk.{Ghosts}
 use Rattle.image_files.specs.declared.phase.Phase.{Phase}
 use Rattle.image_files.specs.declared.phase.Phase.TheVariants.{Idle, Down}
 use Rattle.image_files.specs.Progress.{Progress as ImageProgress}
@@ -40,8 +41,7 @@ abbrev pub IsFirst : LogProgress → List Record → Type 0
 IsFirst keeper queue =
     (queue ≡ []) × ((keeper.starting ≡ true) ⊎ ((keeper.current ≡ A) × (keeper.phase ≡ Ready)))
 
-module _ {D : Type 0} (file : D → List ℕ) (leaves : D → List ℕ → Type 0) (honest : Bool)
-    (faults : D → ℕ) where
+module _ {D : Type 0} (disk : Ghosts D) where
   -- the image keeper made steps
   pub record RunsImages (old new : World D) : Type 0 where
     pub rest : new ≡ record old {
@@ -53,9 +53,9 @@ module _ {D : Type 0} (file : D → List ℕ) (leaves : D → List ℕ → Type 
     pub live : new.content.live ≡ old.content.live
     pub ticks : RoundTick old.images new.images
     pub counts : RunFaults (old.images.phase ≡ Down → ⊥) (new.images.phase ≡ Down → ⊥)
-        (new.images.phase ≡ Down) (faults old.files.image_a) (faults new.files.image_a)
-        (faults old.files.image_b) (faults new.files.image_b)
-    pub follows : IsTrue honest → StillFollows file leaves old new
+        (new.images.phase ≡ Down) (disk.faults old.files.image_a) (disk.faults new.files.image_a)
+        (disk.faults old.files.image_b) (disk.faults new.files.image_b)
+    pub follows : IsTrue disk.honest → StillFollows disk old new
 
   -- the log keeper made steps; that of a start waits for its image
   pub record RunsLog (old new : World D) : Type 0 where
@@ -67,7 +67,7 @@ module _ {D : Type 0} (file : D → List ℕ) (leaves : D → List ℕ → Type 
     pub started : old.log.starting ≡ false → new.log.starting ≡ false
     pub first : old.log.starting ≡ true → old.queue ≡ [] → IsFirst new.log new.queue
     pub counts : RunFaults (old.log.down ≡ false) (new.log.down ≡ false) (new.log.down ≡ true)
-        (faults old.files.log_a) (faults new.files.log_a)
-        (faults old.files.log_b) (faults new.files.log_b)
-    pub follows : IsTrue honest → (old.log.starting ≡ false) ⊎ (old.images.phase ≡ Idle)
-        → StillFollows file leaves old new
+        (disk.faults old.files.log_a) (disk.faults new.files.log_a)
+        (disk.faults old.files.log_b) (disk.faults new.files.log_b)
+    pub follows : IsTrue disk.honest → (old.log.starting ≡ false) ⊎ (old.images.phase ≡ Idle)
+        → StillFollows disk old new

@@ -9,6 +9,7 @@ use Rattle.capture_core.specs.Content.{content_after, Marks, Takes, Covers}
 use Rattle.file_format.specs.declared.slot.Slot.TheVariants.{A}
 use Rattle.file_format.specs.Slot.{of_slot}
 use Rattle.disk_model.specs.Disk.{Call, Grew}
+use Rattle.disk_model.specs.declared.disk.Disk.{Ghosts}
 use Rattle.image_files.specs.declared.phase.Phase.TheVariants.{Idle, Down}
 use Rattle.image_files.specs.declared.answer.ImageAnswer.{ImageAnswer}
 use Rattle.image_files.specs.declared.answer.ImageAnswer.TheVariants as image_answer
@@ -75,8 +76,7 @@ pub record CoversQueue {D : Type 0} (tick : ℕ) (old : World D) (given : LogAns
   pub lowers : (given ≡ log_answer.Idle)
       ⊎ ((given ≡ log_answer.Down) ⊎ (work_of new.log new.queue < work_of old.log old.queue))
 
-module _ {D : Type 0} (file : D → List ℕ) (leaves : D → List ℕ → Type 0) (honest : Bool)
-    (faults : D → ℕ) (called : D → Call → Bool → D → Type 0) where
+module _ {D : Type 0} (disk : Ghosts D) where
   -- a step of the image keeper: it takes a cell, or makes at most one call of a device
   pub record TakesImageStep (old : World D) (given : ImageAnswer) (new : World D) : Type 0 where
     pub rest : new ≡ record old {
@@ -84,8 +84,8 @@ module _ {D : Type 0} (file : D → List ℕ) (leaves : D → List ℕ → Type 
       images = new.images;
       files = record old.files { image_a = new.files.image_a; image_b = new.files.image_b };
     }
-    pub stands : IsTrue honest → (images : ImageFiles) → HasImages file leaves old images
-        → (next : ImageFiles) × HasImages file leaves new next
+    pub stands : IsTrue disk.honest → (images : ImageFiles) → HasImages disk old images
+        → (next : ImageFiles) × HasImages disk new next
         × StepsImages Takes old.images.cells images given next old.content new.content
     pub cells : new.images.cells ≡ old.images.cells
     pub live : new.content.live ≡ old.content.live
@@ -95,11 +95,12 @@ module _ {D : Type 0} (file : D → List ℕ) (leaves : D → List ℕ → Type 
     pub goes_on : OnWorking given (new.images.phase ≡ Idle → ⊥)
     pub ended : IfOpened given (new.images ≡ opened_keeper old.images)
         ((new.images.tick ≡ old.images.tick) × (new.images.newest ≡ old.images.newest))
-    pub cause : HasCause given old.images.phase (faults old.files.image_a)
-        (faults new.files.image_a) (faults old.files.image_b) (faults new.files.image_b)
+    pub cause : HasCause given old.images.phase
+        (disk.faults old.files.image_a) (disk.faults new.files.image_a)
+        (disk.faults old.files.image_b) (disk.faults new.files.image_b)
     -- The phase decides: no file is called, or one file once, either the one that the round writes
     -- or the newest image's.
-    pub calls : ImageCallsIn old.images.phase called
+    pub calls : ImageCallsIn old.images.phase disk.called
         (of_slot (target_of old.images.newest) old.files.image_a old.files.image_b)
         (of_slot (target_of old.images.newest) new.files.image_a new.files.image_b)
         (of_slot (target_of old.images.newest) old.files.image_b old.files.image_a)
@@ -114,8 +115,8 @@ module _ {D : Type 0} (file : D → List ℕ) (leaves : D → List ℕ → Type 
       files = record old.files { log_a = new.files.log_a; log_b = new.files.log_b };
     }
     pub front : old.queue ≡ taken old.log old.queue ++ new.queue
-    pub stands : IsTrue honest → (place : LogPlace) → HasLog file leaves old place
-        → (next : LogPlace) × HasLog file leaves new next
+    pub stands : IsTrue disk.honest → (place : LogPlace) → HasLog disk old place
+        → (next : LogPlace) × HasLog disk new next
         × JournalStep place old.queue given next new.queue
     pub idle : (given ≡ log_answer.Idle)
         ↔ ((old.log.down ≡ false) × (old.log.phase ≡ Ready) × (old.queue ≡ []))
@@ -128,16 +129,17 @@ module _ {D : Type 0} (file : D → List ℕ) (leaves : D → List ℕ → Type 
         × (new.files.log_b ≡ old.files.log_b)
     -- The phase and the record in front decide: no file is called, or one file once, either the
     -- current segment's or the other one.
-    pub calls : old.log.down ≡ false → LogCallsIn called
+    pub calls : old.log.down ≡ false → LogCallsIn disk.called
         (of_slot old.log.current old.files.log_a old.files.log_b)
         (of_slot old.log.current new.files.log_a new.files.log_b)
         (of_slot old.log.current old.files.log_b old.files.log_a)
         (of_slot old.log.current new.files.log_b new.files.log_a) old.log.phase old.queue
     pub cause : given ≡ log_answer.Down → (old.log.down ≡ true)
-        ⊎ (Grew (faults old.files.log_a) (faults new.files.log_a)
-        ⊎ Grew (faults old.files.log_b) (faults new.files.log_b))
-    pub no_fault : new.log.down ≡ false → (faults new.files.log_a ≡ faults old.files.log_a)
-        × (faults new.files.log_b ≡ faults old.files.log_b)
+        ⊎ (Grew (disk.faults old.files.log_a) (disk.faults new.files.log_a)
+        ⊎ Grew (disk.faults old.files.log_b) (disk.faults new.files.log_b))
+    pub no_fault : new.log.down ≡ false
+        → (disk.faults new.files.log_a ≡ disk.faults old.files.log_a)
+        × (disk.faults new.files.log_b ≡ disk.faults old.files.log_b)
     pub lowers : new.log.down ≡ false → 0 < work_of old.log old.queue
         → work_of new.log new.queue < work_of old.log old.queue
     pub started : old.log.starting ≡ false → new.log.starting ≡ false

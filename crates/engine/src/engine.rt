@@ -65,7 +65,7 @@ impl<C: Capture, D: Disk> Model for Engine<C, D> {
     } };
 
     ghost invariant = { λ engine. (engine.queue.capacity ≡ QUEUE_RECORDS)
-        × IsInOrder D.content D.honest (record {
+        × IsInOrder D.Disk (record {
           content = C.content engine.store;
           running = engine.running.list;
           ended = engine.ended;
@@ -80,7 +80,7 @@ impl<C: Capture, D: Disk> Model for Engine<C, D> {
 impl<C: Capture, D: Disk> Engine<C, D> {
     /// Law: a world is in order between any two operations.
     pub fn in_order(&self)
-        ensures { IsInOrder D.content D.honest self.now }
+        ensures { IsInOrder D.Disk self.now }
     {
         let _ = &self.queue;
     }

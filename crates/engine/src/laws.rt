@@ -18,12 +18,12 @@ use world_ticks::actions_go_on;
 pub fn followed_files_are_sound<D: Disk>()
     ensures begun { (world : World D) (first : List ℕ)
         (ticks : List (List Action)) (acknowledged : ℕ) → HasNewest world.images
-        → Follows D.content D.may_leave world first ticks acknowledged
-        → AreSound D.content D.may_leave world.files first ticks acknowledged }
+        → Follows D.Disk world first ticks acknowledged
+        → AreSound D.Disk world.files first ticks acknowledged }
     ensures started { (world : World D) (first : List ℕ)
         (ticks : List (List Action)) (acknowledged : ℕ) → world.log.starting ≡ false
-        → Follows D.content D.may_leave world first ticks acknowledged
-        → AreSound D.content D.may_leave world.files first ticks acknowledged }
+        → Follows D.Disk world first ticks acknowledged
+        → AreSound D.Disk world.files first ticks acknowledged }
 {
     keeper_laws::<D>();
 }
@@ -41,7 +41,7 @@ pub fn event_laws()
 /// Laws: the keepers with their files represent images and a log. Whatever a crash leaves of the
 /// files holds these.
 pub fn keeper_laws<D: Disk>()
-    ensures { KeeperLaws D.content D.may_leave }
+    ensures { KeeperLaws D.Disk }
 {
     images_stay::<D>();
     log_outcomes::<D>();

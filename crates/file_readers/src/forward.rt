@@ -16,7 +16,7 @@ pub fn read_forward<D: Disk>(disk: &mut D, bytes: &mut Vec<u8>, end: usize) -> R
         → bytes.new.items ≡ take end (D.content disk.old)) }
     ensures longer { OnOk result ((length bytes.new.items ≡ end)
         × (take (length bytes.old.items) bytes.new.items ≡ bytes.old.items)) }
-    ensures kept { IsTrue D.honest → KeepsFile D.content D.may_leave disk.old disk.new }
+    ensures kept { IsTrue D.honest → KeepsFile D.Disk disk.old disk.new }
     ensures faults { D.faults disk.new ≡ counted_device (D.faults disk.old) result }
     ensures asked { (disk.new ≡ disk.old) ⊎ ((succeeded : Bool)
         × D.called disk.old
@@ -42,7 +42,7 @@ fn read_behind<D: Disk>(disk: &mut D, bytes: &mut [u8], at: usize) -> Result<(),
         ++ take (length bytes.old - at) (drop at (D.content disk.old))) }
     ensures front { take at bytes.new ≡ take at bytes.old }
     ensures length { length bytes.new ≡ length bytes.old }
-    ensures kept { IsTrue D.honest → KeepsFile D.content D.may_leave disk.old disk.new }
+    ensures kept { IsTrue D.honest → KeepsFile D.Disk disk.old disk.new }
     ensures faults { D.faults disk.new ≡ counted_device (D.faults disk.old) result }
     ensures asked { (succeeded : Bool)
         × D.called disk.old (Read at (length bytes.old - at)) succeeded disk.new }

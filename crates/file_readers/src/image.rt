@@ -30,7 +30,7 @@ pub fn read_image_file<D: Disk>(alloc: Global, disk: &mut D) -> Result<Vec<u8>, 
     ensures asked { OnlyAsked D.called IMAGE_BYTES_MAX disk.old disk.new }
     ensures no_further { IfOk result (λ bytes.
         OnlyAsked D.called (length bytes.items) disk.old disk.new) }
-    ensures kept { IsTrue D.honest → KeepsFile D.content D.may_leave disk.old disk.new }
+    ensures kept { IsTrue D.honest → KeepsFile D.Disk disk.old disk.new }
     ensures faults { D.faults disk.new ≡ counted_device (D.faults disk.old) result }
     ensures refused { IfErr result (λ refusal.
         (refusal ≡ Refusal.Device) ⊎ (refusal ≡ Refusal.NoMemory)) }

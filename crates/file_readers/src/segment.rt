@@ -36,7 +36,7 @@ pub fn read_segment_file<D: Disk>(alloc: Global, disk: &mut D) -> Result<Vec<u8>
     ensures asked { OnlyAsked D.called SEGMENT_BYTES_MAX disk.old disk.new }
     ensures no_further { IfOk result (λ bytes.
         OnlyAsked D.called (furthest_piece (length bytes.items)) disk.old disk.new) }
-    ensures kept { IsTrue D.honest → KeepsFile D.content D.may_leave disk.old disk.new }
+    ensures kept { IsTrue D.honest → KeepsFile D.Disk disk.old disk.new }
     ensures faults { D.faults disk.new ≡ counted_device (D.faults disk.old) result }
     ensures refused { IfErr result (λ refusal.
         (refusal ≡ Refusal.Device) ⊎ (refusal ≡ Refusal.NoMemory)) }
@@ -63,7 +63,7 @@ fn length_that_counts<D: Disk>(disk: &mut D) -> Result<usize, Refusal>
     ensures most { IfOk result (λ most. most ≤ SEGMENT_BYTES_MAX) }
     ensures honest { IsTrue D.honest
         → IfOk result (λ most. most ≡ min (length (D.content disk.old)) SEGMENT_BYTES_MAX) }
-    ensures kept { IsTrue D.honest → KeepsFile D.content D.may_leave disk.old disk.new }
+    ensures kept { IsTrue D.honest → KeepsFile D.Disk disk.old disk.new }
     ensures faults { D.faults disk.new ≡ counted_device (D.faults disk.old) result }
     ensures asked { (succeeded : Bool) × D.called disk.old Length succeeded disk.new }
     ensures refused { IfErr result (λ refusal. refusal ≡ Refusal.Device) }
@@ -85,7 +85,7 @@ fn length_by_now<D: Disk>(
         → IfOk result (λ now. now ≡ most) }
     ensures within { IfOk result (λ now. (most ≤ now) × (now ≤ SEGMENT_BYTES_MAX)) }
     ensures long { IfOk result (λ now. (read ≡ now) ⊎ (HEADER_BYTES ≤ read)) }
-    ensures kept { IsTrue D.honest → KeepsFile D.content D.may_leave disk.old disk.new }
+    ensures kept { IsTrue D.honest → KeepsFile D.Disk disk.old disk.new }
     ensures faults { D.faults disk.new ≡ counted_device (D.faults disk.old) result }
     ensures asked { (disk.new ≡ disk.old)
         ⊎ ((succeeded : Bool) × D.called disk.old Length succeeded disk.new) }

@@ -26,7 +26,7 @@ pub fn read_files<D: Disk>(
         (furthest_piece (length read.log_a.items)) (furthest_piece (length read.log_b.items))
         files.old files.new) }
     ensures kept { IsTrue D.honest
-        → EachFile files.old files.new (KeepsFile D.content D.may_leave) }
+        → EachFile files.old files.new (KeepsFile D.Disk) }
     ensures fault { result ≡ Err Refusal.Device
         → OneGrew (fault_counts D.faults files.old) (fault_counts D.faults files.new) }
     ensures no_fault { result ≢ Err Refusal.Device

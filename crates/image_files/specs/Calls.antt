@@ -13,6 +13,7 @@ use Rattle.image_files.specs.Taken.{filled_words, has_same}
 use Rattle.image_files.specs.Progress.{Progress, chunk_size, done}
 use Rattle.image_files.specs.Keeper.{Fits, TargetEndures}
 use Rattle.image_files.specs.Steps.{IsOnlyRead, IsOpenedImage}
+use Rattle.disk_model.specs.declared.disk.Disk.{Ghosts}
 
 -- ---- how a call changes the keeper
 
@@ -78,29 +79,29 @@ KeepsOutcomes honest old new before after outcomes_before outcomes_after =
     → TargetEndures new.phase new read after newest outcomes_after
 
 -- the three together
-pub record GoesOn {D : Type 0} (honest : Bool) (content : D → List ℕ)
-    (may_leave : D → List ℕ → Type 0) (old new : Progress) (before after : D) : Type 0 where
-  pub fits : KeepsFits honest old new (content before) (content after)
-  pub done : KeepsWords honest old new (content before) (content after)
-  pub endures : KeepsOutcomes honest old new (content before) (content after)
-      (may_leave before) (may_leave after)
+pub record GoesOn {D : Type 0} (disk : Ghosts D) (old new : Progress)
+    (before after : D) : Type 0 where
+  pub fits : KeepsFits disk.honest old new (disk.content before) (disk.content after)
+  pub done : KeepsWords disk.honest old new (disk.content before) (disk.content after)
+  pub endures : KeepsOutcomes disk.honest old new (disk.content before) (disk.content after)
+      (disk.may_leave before) (disk.may_leave after)
 
 -- the image of the round was opened, and the two files have exchanged their parts
-pub record Opens {D : Type 0} (honest : Bool) (content : D → List ℕ)
-    (may_leave : D → List ℕ → Type 0) (old new : Progress) (before after : D)
-    (tick : ℕ) : Type 0 where
-  pub fits : IsTrue honest → (newest : List ℕ) → Fits old (content before) newest
-      → Fits new newest (content after)
-  pub opened : IsTrue honest → (newest : List ℕ) → Fits old (content before) newest
-      → IsOpenedImage old (done old (content before) newest) (content after) (may_leave after) tick
+pub record Opens {D : Type 0} (disk : Ghosts D) (old new : Progress)
+    (before after : D) (tick : ℕ) : Type 0 where
+  pub fits : IsTrue disk.honest → (newest : List ℕ) → Fits old (disk.content before) newest
+      → Fits new newest (disk.content after)
+  pub opened : IsTrue disk.honest → (newest : List ℕ) → Fits old (disk.content before) newest
+      → IsOpenedImage old (done old (disk.content before) newest) (disk.content after)
+      (disk.may_leave after) tick
 
 -- ---- by a call of the newest image's file, whatever the target holds
 
 -- the two files still fit the keeper, the words so far stay, and the file is only read
-pub record Reads {D : Type 0} (honest : Bool) (content : D → List ℕ)
-    (may_leave : D → List ℕ → Type 0) (old new : Progress) (before after : D) : Type 0 where
-  pub fits : IsTrue honest → (target : List ℕ) → Fits old target (content before)
-      → Fits new target (content after)
-  pub done : IsTrue honest → (target : List ℕ) → Fits old target (content before)
-      → done new target (content after) ≡ done old target (content before)
-  pub stays : IsOnlyRead honest content may_leave before after
+pub record Reads {D : Type 0} (disk : Ghosts D) (old new : Progress)
+    (before after : D) : Type 0 where
+  pub fits : IsTrue disk.honest → (target : List ℕ) → Fits old target (disk.content before)
+      → Fits new target (disk.content after)
+  pub done : IsTrue disk.honest → (target : List ℕ) → Fits old target (disk.content before)
+      → done new target (disk.content after) ≡ done old target (disk.content before)
+  pub stays : IsOnlyRead disk before after

@@ -8,6 +8,7 @@ use Rattle.image_files.specs.Image.Image.{Closed, Open}
 use Rattle.image_files.specs.Images.{ImageFiles, NoneYet, Newest}
 use Rattle.image_files.specs.Progress.{Progress, target_of, done, newest_words, round_of}
 use Rattle.image_files.specs.Keeper.{Fits, Endures}
+use Rattle.disk_model.specs.declared.disk.Disk.{Ghosts}
 
 -- the contents of the two files are as the keeper's data says
 abbrev pub FitsFiles : Progress → (image_a image_b : List ℕ) → Type 0
@@ -52,10 +53,11 @@ Stands keeper images image_a image_b outcomes_a outcomes_b =
     (beside_slot (target_of keeper.newest) outcomes_a outcomes_b)
 
 -- the same relation for two disks
-abbrev pub DisksStand : {D : Type 0} → (content : D → List ℕ) → (may_leave : D → List ℕ → Type 0)
-    → Progress → ImageFiles → (image_a image_b : D) → Type 0
-DisksStand content may_leave keeper images image_a image_b =
-    Stands keeper images (content image_a) (content image_b) (may_leave image_a) (may_leave image_b)
+abbrev pub DisksStand : {D : Type 0} → Ghosts D → Progress → ImageFiles
+    → (image_a image_b : D) → Type 0
+DisksStand disk keeper images image_a image_b =
+    Stands keeper images (disk.content image_a) (disk.content image_b)
+    (disk.may_leave image_a) (disk.may_leave image_b)
 
 -- ---- a keeper just made
 

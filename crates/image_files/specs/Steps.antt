@@ -6,6 +6,7 @@ use Rattle.file_format.specs.declared.format.Format.TheVariants.{Second}
 use Rattle.file_format.specs.Format.{marked_in}
 use Rattle.capture_core.specs.declared.taker.Taken.{Taken}
 use Rattle.disk_model.specs.Disk.{overwritten, Only, Within, FaultsBy, Call, CalledOnce}
+use Rattle.disk_model.specs.declared.disk.Disk.{Ghosts}
 use Rattle.image_files.specs.declared.phase.Phase.{Phase}
 use Rattle.image_files.specs.declared.phase.Phase.TheVariants.{Idle, Taking, Reading, Down}
 use Rattle.image_files.specs.declared.answer.ImageAnswer.{ImageAnswer}
@@ -61,10 +62,10 @@ abbrev pub closed : List ℕ → List ℕ
 closed file = overwritten file 0 (CLOSED_GATE ∷ [])
 
 -- a file is only read
-abbrev pub IsOnlyRead : {D : Type 0} → Bool → (content : D → List ℕ)
-    → (may_leave : D → List ℕ → Type 0) → (before after : D) → Type 0
-IsOnlyRead honest content may_leave before after =
-    IsTrue honest → (content after ≡ content before) × Within (may_leave before) (may_leave after)
+abbrev pub IsOnlyRead : {D : Type 0} → Ghosts D → (before after : D) → Type 0
+IsOnlyRead disk before after =
+    IsTrue disk.honest → (disk.content after ≡ disk.content before)
+    × Within (disk.may_leave before) (disk.may_leave after)
 
 -- the words after a take: it adds the cell's own word, or else the newest image's word, or 0
 -- without an image

@@ -232,7 +232,7 @@ impl ImageKeeper {
         // Disks: by the keeper's phase there is no call, or one call on one of the disks. The
         // newest image's file is only read. Down comes only once a call failed, and no failure is
         // passed over. A file is closed by the closed gate, and by no other byte.
-        ensures newest { IsOnlyRead D.honest D.content D.may_leave
+        ensures newest { IsOnlyRead D.Disk
             (of_slot (target_of self.old.newest) image_b.old image_a.old)
             (of_slot (target_of self.old.newest) image_b.new image_a.new) }
         ensures calls { CallsIn self.old.phase D.called
@@ -253,9 +253,8 @@ impl ImageKeeper {
         ensures fits { IsTrue D.honest
             → FitsFiles self.new (D.content image_a.new) (D.content image_b.new) }
         ensures stands { IsTrue D.honest → (images : ImageFiles)
-            → DisksStand D.content D.may_leave self.old images image_a.old image_b.old
-            → (next : ImageFiles)
-            × DisksStand D.content D.may_leave self.new next image_a.new image_b.new
+            → DisksStand D.Disk self.old images image_a.old image_b.old → (next : ImageFiles)
+            × DisksStand D.Disk self.new next image_a.new image_b.new
             × StepsImages T.took self.old.cells images result next from.old from.new }
     {
         match self.target() {
@@ -335,7 +334,7 @@ impl ImageKeeper {
             (D.faults newest.old) (D.faults newest.new) }
 
         // No step writes to the newest image's file.
-        ensures newest { IsOnlyRead D.honest D.content D.may_leave newest.old newest.new }
+        ensures newest { IsOnlyRead D.Disk newest.old newest.new }
     {
         match self.phase {
             Phase::Idle => ImageAnswer::Idle,

@@ -29,28 +29,25 @@ pub fn images_stay<D: Disk>()
         → Only (D.content image_b) (D.may_leave image_b)
         → ReportsShut shut_a (D.content image_a) → ReportsShut shut_b (D.content image_b)
         → IsReported cells newest images (D.content image_a) (D.content image_b)
-        → DisksStand D.content D.may_leave
-        (made_keeper cells newest shut_a shut_b) images image_a image_b }
+        → DisksStand D.Disk (made_keeper cells newest shut_a shut_b) images image_a image_b }
     ensures begun { (keeper : Progress) (tick : ℕ) (images : ImageFiles) (image_a image_b : D)
         → keeper.phase ≡ Idle → tick ≤ TICK_MAX
-        → DisksStand D.content D.may_leave keeper images image_a image_b
-        → DisksStand D.content D.may_leave (begun_keeper tick keeper)
-        (with_round tick images) image_a image_b }
+        → DisksStand D.Disk keeper images image_a image_b
+        → DisksStand D.Disk (begun_keeper tick keeper) (with_round tick images) image_a image_b }
     ensures newest { (keeper : Progress) (images : ImageFiles) (image_a image_b : D)
-        → DisksStand D.content D.may_leave keeper images image_a image_b
-        → keeper.newest ≡ newest_in images }
+        → DisksStand D.Disk keeper images image_a image_b → keeper.newest ≡ newest_in images }
     ensures idle { (keeper : Progress) (images : ImageFiles) (image_a image_b : D)
-        → DisksStand D.content D.may_leave keeper images image_a image_b → keeper.phase ≡ Idle
+        → DisksStand D.Disk keeper images image_a image_b → keeper.phase ≡ Idle
         → round_in images ≡ None }
     ensures rests { (keeper : Progress) (images : ImageFiles) (image_a image_b : D)
-        → DisksStand D.content D.may_leave keeper images image_a image_b → keeper.phase ≡ Idle
+        → DisksStand D.Disk keeper images image_a image_b → keeper.phase ≡ Idle
         → Only (D.content image_a) (D.may_leave image_a)
         × Only (D.content image_b) (D.may_leave image_b) }
     ensures round { (keeper : Progress) (images : ImageFiles) (image_a image_b : D)
-        → DisksStand D.content D.may_leave keeper images image_a image_b
+        → DisksStand D.Disk keeper images image_a image_b
         → (keeper.phase ≡ Idle → ⊥) → (round : Round) × (round_in images ≡ Some round)
         × (round.tick ≡ keeper.tick) × (length round.taken ≡ cells_taken keeper) }
     ensures left { (keeper : Progress) (images : ImageFiles) (image_a image_b : D)
-        → DisksStand D.content D.may_leave keeper images image_a image_b
+        → DisksStand D.Disk keeper images image_a image_b
         → ImageFilesAre keeper.cells images (D.may_leave image_a) (D.may_leave image_b) }
 {}

@@ -4,6 +4,7 @@ use Rattle.std.proofs.Common.{◌≡◌, ℕ, zero, suc, Bool, List, [], take, r
 use Rattle.world_actions.specs.declared.action.Action.{Action}
 use Rattle.world_actions.specs.declared.refusal.Refusal.{Refusal}
 use Rattle.disk_model.specs.declared.four_files.FourFiles.{FourFiles}
+use Rattle.disk_model.specs.declared.disk.Disk.{Ghosts}
 use Rattle.engine.proofs.Following.{no_action}
 use Rattle.serial_world.specs.declared.state.SerialState.{SerialState}
 use Rattle.serial_world.specs.Runs.{words_of, Serves}
@@ -18,14 +19,12 @@ none_taken (suc n) none e = subst (λ (l : List (List Action)). take (suc n) l �
 same_words : (a b : List ℕ) → ◌≡◌ {A = Result (List ℕ) Refusal} (Ok a) (Ok b) → a ≡ b
 same_words a b e = cc
 
-module _ {C D : Type 0} (file : D → List ℕ) (leaves : D → List ℕ → Type 0) (honest : Bool) where
-  pub served_fresh : (files made : FourFiles D) (cells : ℕ) (s : SerialState C D) → AreMade file leaves files cells made → AreSynced file leaves files → IsOpened file leaves honest made s
-      → IsServedFresh file leaves honest cells s
+module _ {C D : Type 0} (disk : Ghosts D) where
+  pub served_fresh : (files made : FourFiles D) (cells : ℕ) (s : SerialState C D) → AreMade disk files cells made → AreSynced disk files → IsOpened disk made s → IsServedFresh disk cells s
   served_fresh files made cells s m synced opened =
       let on = opened.serves (replicate cells 0) [] 0 (m.synced synced) (m.sound synced) in
-      let serves : Serves file leaves honest s (replicate cells 0) [] = subst
-      (λ (ticks : List (List Action)). Serves file leaves honest s (replicate cells 0) ticks) (none_taken opened.recovery.tick [] refl) on in
-      let words = words_of file leaves honest s in
+      let serves : Serves disk s (replicate cells 0) [] = subst (λ (ticks : List (List Action)). Serves disk s (replicate cells 0) ticks) (none_taken opened.recovery.tick [] refl) on in
+      let words = words_of disk s in
       record {
         cells_are = serves.follows.cells ∙ length-replicate cells 0;
         words = sym (same_words (replicate cells 0) words (serves.follows.after_ended ∙ ap (λ w. Ok w) (no_action serves.follows.last words s.engine.running serves.running serves.follows.live)));

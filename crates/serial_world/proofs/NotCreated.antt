@@ -5,6 +5,7 @@ use Rattle.world_actions.specs.declared.action.Action.{Action}
 use Rattle.world_actions.specs.declared.refusal.Refusal.{Refusal}
 use Rattle.world_actions.specs.declared.refusal.Refusal.TheVariants.{NotEmpty, BadImage, BadLog}
 use Rattle.disk_model.specs.declared.four_files.FourFiles.{FourFiles}
+use Rattle.disk_model.specs.declared.disk.Disk.{Ghosts}
 use Rattle.image_files.specs.Image.{image_of}
 use Rattle.action_log.specs.Segment.{Segment}
 use Rattle.action_log.specs.Spellings.{ReadsOnce}
@@ -42,43 +43,43 @@ other_reason a b la lb e =
     from_image (newest (image_of a) (image_of b)) e.a e.b
     (good_files (is_bad_image (image_of a) || is_bad_image (image_of b)) (is_bad_segment e.a || is_bad_segment e.b) (recovery_from (newest (image_of a) (image_of b)) e.a e.b) e.holds)
 
-module _ {D : Type 0} (file : D → List ℕ) (leaves : D → List ℕ → Type 0) (honest : Bool) where
+module _ {D : Type 0} (disk : Ghosts D) where
   -- recovery refuses no files that are sound
-  none_refused : ReadsOnce → ((disk : D) → leaves disk (file disk)) → (files : FourFiles D) (first : List ℕ)
-      (ticks : List (List Action)) (acknowledged : ℕ) → AreSound file leaves files first ticks acknowledged
-      → (refusal : Refusal) → Recovers (file files.image_a) (file files.image_b) (file files.log_a) (file files.log_b) (Err refusal) → ⊥
+  none_refused : ReadsOnce → ((file : D) → disk.may_leave file (disk.content file)) → (files : FourFiles D) (first : List ℕ)
+      (ticks : List (List Action)) (acknowledged : ℕ) → AreSound disk files first ticks acknowledged
+      → (refusal : Refusal) → Recovers (disk.content files.image_a) (disk.content files.image_b) (disk.content files.log_a) (disk.content files.log_b) (Err refusal) → ⊥
   none_refused once stays files first ticks acknowledged sound refusal e =
-      let s = sound (file files.image_a) (file files.image_b) (file files.log_a) (file files.log_b) (stays files.image_a) (stays files.image_b) (stays files.log_a) (stays files.log_b) in
-      let images = λ (x y : Segment). recovery_of (image_of (file files.image_a)) (image_of (file files.image_b)) x y in
+      let s =
+      sound (disk.content files.image_a) (disk.content files.image_b) (disk.content files.log_a) (disk.content files.log_b)
+      (stays files.image_a) (stays files.image_b) (stays files.log_a) (stays files.log_b) in
+      let images = λ (x y : Segment). recovery_of (image_of (disk.content files.image_a)) (image_of (disk.content files.image_b)) x y in
       let there : images s.a s.b ≡ Err refusal =
-      subst (λ x. images x s.b ≡ Err refusal) (once (file files.log_a) e.a s.a e.reads_a s.reads_a)
-      (subst (λ y. images e.a y ≡ Err refusal) (once (file files.log_b) e.b s.b e.reads_b s.reads_b) e.holds) in
+      subst (λ x. images x s.b ≡ Err refusal) (once (disk.content files.log_a) e.a s.a e.reads_a s.reads_a)
+      (subst (λ y. images e.a y ≡ Err refusal) (once (disk.content files.log_b) e.b s.b e.reads_b s.reads_b) e.holds) in
       let same : ◌≡◌ {A = Result Recovery Refusal} (Ok s.holds.recovery) (Err refusal) = sym s.holds.stands ∙ there in
       cc
 
   -- the reasons why the new files are not opened
-  pub new_refused : ReadsOnce → (IsTrue honest → (disk : D) → leaves disk (file disk)) → (files made : FourFiles D) (cells : ℕ) → (IsTrue honest → AreMade file leaves files cells made)
-      → (refusal : Refusal) → IsRefused file honest made refusal → IsRefusedNew file leaves honest files refusal
+  pub new_refused : ReadsOnce → (IsTrue disk.honest → (file : D) → disk.may_leave file (disk.content file)) → (files made : FourFiles D) (cells : ℕ)
+      → (IsTrue disk.honest → AreMade disk files cells made) → (refusal : Refusal) → IsRefused disk made refusal → IsRefusedNew disk files refusal
   new_refused once stays files made cells m refusal (inl memory) = inr (inl memory)
   new_refused once stays files made cells m refusal (inr (inl device)) = inr (inr (inl device))
   new_refused once stays files made cells m refusal (inr (inr r)) =
       inr (inr (inr (
         r.bytes,
         r.recovers,
-        λ honest synced.
-            none_refused once (stays honest) made (replicate cells 0) [] 0 ((m honest).sound synced) refusal
+        λ honest synced. none_refused once (stays honest) made (replicate cells 0) [] 0 ((m honest).sound synced) refusal
             (subst (λ (bytes : FourFiles (List ℕ)). RecoversAll bytes (Err refusal)) (r.read honest) r.recovers),
       )))
 
-  not_by_open : (files : FourFiles D) (refusal : Refusal) → IsRefused file honest files refusal → refusal ≡ NotEmpty → ⊥
+  not_by_open : (files : FourFiles D) (refusal : Refusal) → IsRefused disk files refusal → refusal ≡ NotEmpty → ⊥
   not_by_open files refusal (inl memory) is = cc
   not_by_open files refusal (inr (inl device)) is = cc
   not_by_open files refusal (inr (inr r)) is = other_reason _ _ _ _ (subst (λ (x : Refusal). RecoversAll r.bytes (Err x)) is r.recovers)
 
   -- what is left of the new files, if they are not opened
-  pub new_left : (files made : FourFiles D) (cells : ℕ) → AreMade file leaves files cells made
-      → (refusal : Refusal) (left : FourFiles D) → IsRefused file honest made refusal → IsNotOpened file leaves made refusal left
-      → IsNotCreated file leaves files cells refusal left
+  pub new_left : (files made : FourFiles D) (cells : ℕ) → AreMade disk files cells made → (refusal : Refusal) (left : FourFiles D) → IsRefused disk made refusal → IsNotOpened disk made refusal left
+      → IsNotCreated disk files cells refusal left
   new_left files made cells m refusal left refused n = record {
     not_empty = λ is. absurd (not_by_open made refusal refused is);
     kept = λ other. inr (made, m, n.kept other);
@@ -86,5 +87,5 @@ module _ {D : Type 0} (file : D → List ℕ) (leaves : D → List ℕ → Type 
   }
 
   -- what is left of files that were not made
-  pub none_made : (files : FourFiles D) (cells : ℕ) (refusal : Refusal) (left : FourFiles D) → AreNotMade file leaves files cells refusal left → IsNotCreated file leaves files cells refusal left
+  pub none_made : (files : FourFiles D) (cells : ℕ) (refusal : Refusal) (left : FourFiles D) → AreNotMade disk files cells refusal left → IsNotCreated disk files cells refusal left
   none_made files cells refusal left n = record { not_empty = n.not_empty; kept = λ other. inl (n.kept other); safe = n.safe }

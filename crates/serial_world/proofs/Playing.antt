@@ -4,6 +4,7 @@ use Rattle.std.specs.Prelude.{IsTrue, IfNone, IfSome}
 use Rattle.world_actions.specs.declared.action.Action.{Action}
 use Rattle.world_actions.specs.declared.refusal.Refusal.{Refusal}
 use Rattle.world_actions.specs.declared.refusal.Refusal.TheVariants.{Starting}
+use Rattle.disk_model.specs.declared.disk.Disk.{Ghosts}
 use Rattle.file_format.specs.declared.slot.Slot.{Slot}
 use Rattle.file_format.specs.Slot.{in_slot}
 use Rattle.image_files.specs.declared.phase.Phase.TheVariants.{Idle, Down, Closing, Header}
@@ -58,7 +59,7 @@ begun_works tick keeper e = begun_by keeper.target_shut e
 
 -- ---- the world
 
-module _ {D : Type 0} (file : D → List ℕ) (leaves : D → List ℕ → Type 0) (honest : Bool) (faults : D → ℕ) where
+module _ {D : Type 0} (disk : Ghosts D) where
   -- a world at rest played actions as one tick, and wrote its log
   pub record Logged (old played logged : World D) (actions : List Action) : Type 0 where
     pub rest : IsAtRest logged
@@ -66,11 +67,11 @@ module _ {D : Type 0} (file : D → List ℕ) (leaves : D → List ℕ → Type 
     pub since : logged.since ≡ old.since + 1
     pub cells : logged.images.cells ≡ old.images.cells
     pub words : logged.content.live ≡ played.content.live
-    pub follows : IsTrue honest → (first : List ℕ) (ticks : List (List Action)) (acknowledged : ℕ) → Follows file leaves old first ticks acknowledged
-        → Follows file leaves logged first (ticks ++ actions ∷ []) acknowledged
+    pub follows : IsTrue disk.honest → (first : List ℕ) (ticks : List (List Action)) (acknowledged : ℕ) → Follows disk old first ticks acknowledged
+        → Follows disk logged first (ticks ++ actions ∷ []) acknowledged
 
   pub logged_from : EventLaws → (old played ended logged : World D) (actions : List Action) → IsAtRest old → DoesActions old actions played → EndsTick played ended
-      → RunsLog file leaves honest faults ended logged → (logged.log.down ≡ true) ⊎ (work_of logged.log logged.queue ≡ 0) → Logged old played logged actions
+      → RunsLog disk ended logged → (logged.log.down ≡ true) ⊎ (work_of logged.log logged.queue ≡ 0) → Logged old played logged actions
   logged_from laws old played ended logged actions r d e w rests =
       let over : played.log.starting ≡ false = ap (λ (w : World D). w.log.starting) d.rest ∙ r.started in
       let still : ended.log.starting ≡ false = ap (λ (w : World D). w.log.starting) e.2 ∙ over in
@@ -89,14 +90,13 @@ module _ {D : Type 0} (file : D → List ℕ) (leaves : D → List ℕ → Type 
         words = ap (λ (w : World D). w.content.live) w.rest ∙ ap (λ (w : World D). w.content.live) e.2;
         follows = λ sure first ticks acknowledged f.
             w.follows sure (inl still) first (ticks ++ actions ∷ []) acknowledged
-            (subst (λ l. Follows file leaves ended first (ticks ++ l ∷ []) acknowledged) running
-            (end_follows file leaves laws played ended first ticks acknowledged over e (actions_follow file leaves laws old played actions first ticks acknowledged r.started d f).follows).follows);
+            (subst (λ l. Follows disk ended first (ticks ++ l ∷ []) acknowledged) running
+            (end_follows disk laws played ended first ticks acknowledged over e (actions_follow disk laws old played actions first ticks acknowledged r.started d f).follows).follows);
       }
 
   -- a world at rest that made a checkpoint is at rest again
-  pub marked_rests : (old begun written logged : World D) → IsAtRest old → BeginsRound old begun → RunsImages file leaves honest faults begun written
-      → (written.images.phase ≡ Idle) ⊎ (written.images.phase ≡ Down)
-      → RunsLog file leaves honest faults written logged → (logged.log.down ≡ true) ⊎ (work_of logged.log logged.queue ≡ 0) → IsAtRest logged
+  pub marked_rests : (old begun written logged : World D) → IsAtRest old → BeginsRound old begun → RunsImages disk begun written → (written.images.phase ≡ Idle) ⊎ (written.images.phase ≡ Down)
+      → RunsLog disk written logged → (logged.log.down ≡ true) ⊎ (work_of logged.log logged.queue ≡ 0) → IsAtRest logged
   marked_rests old begun written logged r d i over w rests = record {
     started = w.started (ap (λ (w : World D). w.log.starting) i.rest ∙ (ap (λ (w : World D). w.log.starting) d.1 ∙ r.started));
     running = ap (λ (w : World D). w.running) w.rest ∙ (ap (λ (w : World D). w.running) i.rest ∙ (ap (λ (w : World D). w.running) d.1 ∙ r.running));
@@ -105,11 +105,11 @@ module _ {D : Type 0} (file : D → List ℕ) (leaves : D → List ℕ → Type 
   }
 
   -- the newest image is of this tick
-  pub image_is : KeeperLaws file leaves → (world : World D) (first : List ℕ) (ticks : List (List Action)) (acknowledged : ℕ) → world.log.starting ≡ false → (tick : ℕ)
-      → tick ≡ newest_tick world.images.newest → Follows file leaves world first ticks acknowledged → HasImageOf leaves world.files tick
+  pub image_is : KeeperLaws disk → (world : World D) (first : List ℕ) (ticks : List (List Action)) (acknowledged : ℕ) → world.log.starting ≡ false → (tick : ℕ)
+      → tick ≡ newest_tick world.images.newest → Follows disk world first ticks acknowledged → HasImageOf disk.may_leave world.files tick
   image_is laws world first ticks acknowledged over tick is f =
       let files = world.files in
-      let s = has_started file leaves world first ticks acknowledged f over in
+      let s = has_started disk world first ticks acknowledged f over in
       let newest = laws.newest world.images f.images files.image_a files.image_b f.has_images ∙ ap newest_in s.is_newest in
-      image_in world.images.cells f.images (leaves files.image_a) (leaves files.image_b) s.newest.slot tick
+      image_in world.images.cells f.images (disk.may_leave files.image_a) (disk.may_leave files.image_b) s.newest.slot tick
       (ap newest_in s.is_newest ∙ ap (λ n. Some (s.newest.slot, n)) (sym (is ∙ ap newest_tick newest))) (laws.images_are world.images f.images files.image_a files.image_b f.has_images)

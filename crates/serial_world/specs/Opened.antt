@@ -5,6 +5,7 @@ use Rattle.world_actions.specs.declared.refusal.Refusal.{Refusal}
 use Rattle.world_actions.specs.declared.refusal.Refusal.TheVariants.{Device, NoMemory, NotEmpty}
 use Rattle.disk_model.specs.FourFiles.{EachFile, KeepsFile}
 use Rattle.disk_model.specs.declared.four_files.FourFiles.{FourFiles}
+use Rattle.disk_model.specs.declared.disk.Disk.{Ghosts}
 use Rattle.recovery.specs.Recovery.{Recovery}
 use Rattle.engine.specs.Follows.{AreSound}
 use Rattle.world_start.specs.Opening.{AreSynced, RecoversAll, RecoversFiles}
@@ -15,62 +16,60 @@ use Rattle.serial_world.specs.Runs.{words_of, Serves}
 -- The recovered world is served, and all its ticks are acknowledged again. If the files were
 -- synced and sound for some ticks, the recovered ones among them are served, and no fewer than
 -- were acknowledged.
-pub record IsOpened {C D : Type 0} (file : D → List ℕ) (leaves : D → List ℕ → Type 0)
-    (honest : Bool) (files : FourFiles D) (s : SerialState C D) : Type 0 where
+pub record IsOpened {C D : Type 0} (disk : Ghosts D) (files : FourFiles D)
+    (s : SerialState C D) : Type 0 where
   pub recovery : Recovery
-  pub recovers : RecoversFiles file files recovery
+  pub recovers : RecoversFiles disk.content files recovery
   pub recovered : s.recovered ≡ (recovery.tick, recovery.from)
-  pub words : words_of file leaves honest s ≡ recovery.words
+  pub words : words_of disk s ≡ recovery.words
   pub ended : s.engine.ended ≡ recovery.tick
   pub acked : s.acked ≡ recovery.tick
   pub serves : (first : List ℕ) (ticks : List (List Action)) (acknowledged : ℕ)
-      → AreSynced file leaves files → AreSound file leaves files first ticks acknowledged
-      → Serves file leaves honest s first (take recovery.tick ticks)
+      → AreSynced disk files → AreSound disk files first ticks acknowledged
+      → Serves disk s first (take recovery.tick ticks)
 
-module _ {D : Type 0} (file : D → List ℕ) (leaves : D → List ℕ → Type 0) where
+module _ {D : Type 0} (disk : Ghosts D) where
   -- No world is opened. The files were only read, except if a device failed, and sound
   -- files stay sound.
   pub record IsNotOpened (files : FourFiles D) (refusal : Refusal)
       (left : FourFiles D) : Type 0 where
-    pub kept : refusal ≢ Device → EachFile files left (KeepsFile file leaves)
+    pub kept : refusal ≢ Device → EachFile files left (KeepsFile disk)
     pub sound : (first : List ℕ) (ticks : List (List Action)) (acknowledged : ℕ)
-        → AreSynced file leaves files → AreSound file leaves files first ticks acknowledged
-        → AreSound file leaves left first ticks acknowledged
+        → AreSynced disk files → AreSound disk files first ticks acknowledged
+        → AreSound disk left first ticks acknowledged
 
--- ---- a new world
+  -- ---- a new world
 
-module _ {D : Type 0} (file : D → List ℕ) (leaves : D → List ℕ → Type 0) where
   -- The reasons why no new world is served: the files hold a world, memory ran out, a device
   -- failed, or recovery refuses the bytes that were read of the new files. On files that keep to
   -- the disk model and were synced, recovery refuses none.
-  abbrev pub IsRefusedNew : (honest : Bool) → FourFiles D → Refusal → Type 0
-  IsRefusedNew honest files refusal =
+  abbrev pub IsRefusedNew : FourFiles D → Refusal → Type 0
+  IsRefusedNew files refusal =
       (refusal ≡ NotEmpty) ⊎ ((refusal ≡ NoMemory) ⊎ ((refusal ≡ Device)
       ⊎ ((bytes : FourFiles (List ℕ)) × RecoversAll bytes (Err refusal)
-      × (IsTrue honest → AreSynced file leaves files → ⊥))))
+      × (IsTrue disk.honest → AreSynced disk files → ⊥))))
 
   -- the files were only read, or they are those of the new world and were only read since
   abbrev pub AreKeptOrMade : FourFiles D → (cells : ℕ) → (left : FourFiles D) → Type 0
   AreKeptOrMade files cells left =
-      EachFile files left (KeepsFile file leaves)
-      ⊎ ((made : FourFiles D) × AreMade file leaves files cells made
-      × EachFile made left (KeepsFile file leaves))
+      EachFile files left (KeepsFile disk) ⊎ ((made : FourFiles D) × AreMade disk files cells made
+      × EachFile made left (KeepsFile disk))
 
   -- No new world is served. `NotEmpty` comes only if one of the files isn't closed. If the
   -- files were synced and closed, whatever a crash leaves of them is no world yet, or one of
   -- zeros at tick 0.
   pub record IsNotCreated (files : FourFiles D) (cells : ℕ) (refusal : Refusal)
       (left : FourFiles D) : Type 0 where
-    pub not_empty : refusal ≡ NotEmpty → ¬ FilesAreClosed file files
+    pub not_empty : refusal ≡ NotEmpty → ¬ FilesAreClosed disk.content files
     pub kept : refusal ≢ Device → AreKeptOrMade files cells left
-    pub safe : AreSynced file leaves files → FilesAreClosed file files
-        → AreFreshOrSound file leaves left (replicate cells 0)
+    pub safe : AreSynced disk files → FilesAreClosed disk.content files
+        → AreFreshOrSound disk left (replicate cells 0)
 
 -- a world of zeros at tick 0 is served, with no tick ended
-pub record IsServedFresh {C D : Type 0} (file : D → List ℕ) (leaves : D → List ℕ → Type 0)
-    (honest : Bool) (cells : ℕ) (s : SerialState C D) : Type 0 where
+pub record IsServedFresh {C D : Type 0} (disk : Ghosts D) (cells : ℕ)
+    (s : SerialState C D) : Type 0 where
   pub cells_are : s.engine.images.cells ≡ cells
-  pub words : words_of file leaves honest s ≡ replicate cells 0
+  pub words : words_of disk s ≡ replicate cells 0
   pub ended : s.engine.ended ≡ 0
   pub acked : s.acked ≡ 0
-  pub serves : Serves file leaves honest s (replicate cells 0) []
+  pub serves : Serves disk s (replicate cells 0) []

@@ -5,6 +5,7 @@ use Rattle.world_actions.specs.declared.action.Action.{Action}
 use Rattle.world_actions.specs.declared.refusal.Refusal.{Refusal}
 use Rattle.world_actions.specs.declared.refusal.Refusal.TheVariants.{LogDown, NoMemory}
 use Rattle.disk_model.specs.declared.four_files.FourFiles.{FourFiles}
+use Rattle.disk_model.specs.declared.disk.Disk.{Ghosts}
 use Rattle.file_format.specs.declared.slot.Slot.{Slot}
 use Rattle.file_format.specs.Slot.{in_slot}
 use Rattle.image_files.specs.Image.{image_of, Open}
@@ -23,8 +24,7 @@ HasImageOf leaves files tick =
     × ((left : List ℕ) → in_slot slot (leaves files.image_a) (leaves files.image_b) left
     → image_of left ≡ Open tick words)
 
-module _ {C D : Type 0} (file : D → List ℕ) (leaves : D → List ℕ → Type 0)
-    (honest : Bool) where
+module _ {C D : Type 0} (disk : Ghosts D) where
   -- the words of the world
   abbrev pub words_of : SerialState C D → List ℕ
   words_of s = s.engine.content.live
@@ -35,7 +35,7 @@ module _ {C D : Type 0} (file : D → List ℕ) (leaves : D → List ℕ → Typ
       (ticks : List (List Action)) : Type 0 where
     pub started : s.engine.log.starting ≡ false
     pub running : s.engine.running ≡ []
-    pub follows : Follows file leaves s.engine first ticks s.acked
+    pub follows : Follows disk s.engine first ticks s.acked
 
   -- a batch ended as one tick, even if nothing of it was accepted
   pub record PlaysTick (old : SerialState C D) (requests : List Request)
@@ -45,7 +45,7 @@ module _ {C D : Type 0} (file : D → List ℕ) (leaves : D → List ℕ → Typ
     pub words : words_of new ≡ words_after requests (words_of old)
     pub same : (new.every ≡ old.every) × (new.recovered ≡ old.recovered)
         × (new.engine.images.cells ≡ old.engine.images.cells)
-    pub serves : IsTrue honest → (first : List ℕ) (ticks : List (List Action))
+    pub serves : IsTrue disk.honest → (first : List ℕ) (ticks : List (List Action))
         → Serves old first ticks
         → Serves new first (ticks ++ accepted_of requests (words_of old) ∷ [])
 
@@ -57,9 +57,10 @@ module _ {C D : Type 0} (file : D → List ℕ) (leaves : D → List ℕ → Typ
     pub acked : new.acked ≡ new.engine.ended
     pub since : (new.engine.since ≡ old.engine.since + 1)
         ⊎ ((new.engine.since ≡ 0) × (old.every ≤ old.engine.since + 1))
-    pub image : IsTrue honest → (first : List ℕ) (ticks : List (List Action))
+    pub image : IsTrue disk.honest → (first : List ℕ) (ticks : List (List Action))
         → Serves old first ticks → old.every ≤ old.engine.since + 1
-        → (new.engine.images.phase ≡ Down) ⊎ HasImageOf leaves new.engine.files new.engine.ended
+        → (new.engine.images.phase ≡ Down)
+        ⊎ HasImageOf disk.may_leave new.engine.files new.engine.ended
 
   -- a batch was answered with this text, and its tick is acknowledged
   pub record Answered (old : SerialState C D) (requests : List Request) (text : List ℕ)

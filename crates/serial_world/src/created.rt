@@ -21,13 +21,13 @@ pub fn create_and_open<C: Capture, D: Disk>(
     every: u32,
 ) -> Result<SerialWorld<C, D>, (FourFiles<D>, Refusal)>
     requires { (1 ≤ cells) × (cells ≤ CELLS) }
-    ensures served { IsTrue D.honest → AreSynced D.content D.may_leave files
-        → IfOk result (IsServedFresh D.content D.may_leave D.honest cells) }
+    ensures served { IsTrue D.honest → AreSynced D.Disk files
+        → IfOk result (IsServedFresh D.Disk cells) }
     ensures every { IfOk result (λ served. served.every ≡ every) }
     ensures refused { IfErr result (λ refused.
-        IsRefusedNew D.content D.may_leave D.honest files refused.1) }
+        IsRefusedNew D.Disk files refused.1) }
     ensures left { IsTrue D.honest → IfErr result (λ refused.
-        IsNotCreated D.content D.may_leave files cells refused.1 refused.0) }
+        IsNotCreated D.Disk files cells refused.1 refused.0) }
     ensures device { IfErr result (λ refused. HasFaulted D.faults files refused.0 refused.1) }
 {
     segments_read_once();

@@ -13,8 +13,7 @@ use engine::followed_files_are_sound;
 /// that count. Each open image is the world after its tick.
 pub fn served_worlds_are_safe<C: Capture, D: Disk>()
     ensures { IsTrue D.honest → (s : State C D) (first : List ℕ) (ticks : List (List Action))
-        → Serves D.content D.may_leave D.honest s first ticks
-        → AreSound D.content D.may_leave s.engine.files first ticks s.acked }
+        → Serves D.Disk s first ticks → AreSound D.Disk s.engine.files first ticks s.acked }
 {
     followed_files_are_sound::<D>();
 }

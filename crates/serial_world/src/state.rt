@@ -29,11 +29,11 @@ impl<C: Capture, D: Disk> SerialState<C, D> {
         requires { IsAtRest self.old.engine }
         ensures rest { IsAtRest self.new.engine }
         ensures acknowledged { OnOk result (
-            Acknowledged D.content D.may_leave D.honest self.old b.now.list self.new) }
+            Acknowledged D.Disk self.old b.now.list self.new) }
         ensures answers { OnOk result (A.reports answers.new
             b.now.list self.old.engine.content.live (self.old.engine.ended + 1)) }
         ensures refused { IfErr result (λ refusal.
-            IsRefusedBatch D.content D.may_leave D.honest self.old b.now.list refusal self.new) }
+            IsRefusedBatch D.Disk self.old b.now.list refusal self.new) }
     {
         event_laws();
         keeper_laws::<D>();
@@ -65,11 +65,9 @@ impl<C: Capture, D: Disk> SerialState<C, D> {
         ensures live { self.new.engine.content.live ≡ self.old.engine.content.live }
         ensures same { self.new ≡ record self.old { engine = self.new.engine } }
         ensures serves { IsTrue D.honest → (first : List ℕ) (ticks : List (List Action))
-            → Serves D.content D.may_leave D.honest self.old first ticks
-            → Serves D.content D.may_leave D.honest self.new first ticks }
+            → Serves D.Disk self.old first ticks → Serves D.Disk self.new first ticks }
         ensures image { IsTrue D.honest → (first : List ℕ) (ticks : List (List Action))
-            → Serves D.content D.may_leave D.honest self.old first ticks
-            → self.old.every ≤ self.old.engine.since
+            → Serves D.Disk self.old first ticks → self.old.every ≤ self.old.engine.since
             → (self.new.engine.images.phase ≡ Down)
             ⊎ HasImageOf D.may_leave self.new.engine.files self.new.engine.ended }
     {

@@ -48,17 +48,17 @@ impl<C: Capture, D: Disk> SerialWorld<C, D> {
         every: u32,
     ) -> Result<Self, (FourFiles<D>, Refusal)>
         ensures opened { IsTrue D.honest
-            → IfOk result (IsOpened D.content D.may_leave D.honest files) }
-        ensures recovered { IfOk result (λ served. IsRecovered D.content D.honest files
+            → IfOk result (IsOpened D.Disk files) }
+        ensures recovered { IfOk result (λ served. IsRecovered D.Disk files
             served.engine served.recovered.0 served.recovered.1) }
         ensures up { IfOk result (λ served. served.engine.log.down ≡ false) }
         ensures begun { IfOk result (λ served. (served.engine.since ≡ 0)
             × (served.engine.images.phase ≡ Idle)) }
         ensures every { IfOk result (λ served. served.every ≡ every) }
         ensures acked { IfOk result (λ served. served.acked ≡ served.engine.ended) }
-        ensures refused { IfErr result (λ refused. IsRefused D.content D.honest files refused.1) }
+        ensures refused { IfErr result (λ refused. IsRefused D.Disk files refused.1) }
         ensures left { IsTrue D.honest → IfErr result (λ refused.
-            IsNotOpened D.content D.may_leave files refused.1 refused.0) }
+            IsNotOpened D.Disk files refused.1 refused.0) }
         ensures device { IfErr result (λ refused. HasFaulted D.faults files refused.0 refused.1) }
     {
         followed_files_are_sound::<D>();
@@ -121,13 +121,12 @@ impl<C: Capture, D: Disk> SerialWorld<C, D> {
     /// refused, there are none.
     pub fn play(&mut self, b: &Batch, answers: &mut Vec<Answer>) -> Result<u64, Refusal>
         ensures acknowledged { IfOk result (λ _.
-            Acknowledged D.content D.may_leave D.honest self.old b.now.list self.new) }
+            Acknowledged D.Disk self.old b.now.list self.new) }
         ensures answers { OnOk result (answers.new.items
             ≡ answers_of b.now.list self.old.engine.content.live) }
         ensures tick { IfOk result (λ tick. tick ≡ self.new.acked) }
         ensures refused { IfErr result (λ refusal.
-            IsRefusedBatch D.content D.may_leave D.honest self.old
-            b.now.list refusal self.new) }
+            IsRefusedBatch D.Disk self.old b.now.list refusal self.new) }
         ensures none { OnErr result (answers.new.items ≡ []) }
     {
         match self.state.batch(b, answers) {
@@ -150,12 +149,11 @@ impl<C: Capture, D: Disk> SerialWorld<C, D> {
             × (parts.since ≡ self.engine.since)) }
         ensures none_queued { IfOk result (λ parts. parts.log.down ≡ false
             → self.engine.queue ≡ []) }
-        ensures rest { IfOk result (AreAtRest D.content D.honest) }
+        ensures rest { IfOk result (AreAtRest D.Disk) }
         ensures settled { IfOk result (λ parts. parts.log.down ≡ false
             → parts.images.phase ≡ Idle → parts.since ≡ 0
             → (first : List ℕ) (ticks : List (List Action))
-            → Serves D.content D.may_leave D.honest self first ticks
-            → AreSettled D.content D.may_leave parts first ticks) }
+            → Serves D.Disk self first ticks → AreSettled D.Disk parts first ticks) }
         ensures refused { IfErr result (λ refused. (refused.0 ≡ self.engine.files)
             × (refused.1 ≡ Refusal.NoMemory)) }
     {
@@ -178,8 +176,7 @@ impl<C: Capture, D: Disk> SerialWorld<C, D> {
         ensures synced { IsTrue D.honest → self.engine.log.down ≡ false
             → self.engine.images.phase ≡ Idle
             → (first : List ℕ) (ticks : List (List Action))
-            → Serves D.content D.may_leave D.honest self first ticks
-            → AreSynced D.content D.may_leave result }
+            → Serves D.Disk self first ticks → AreSynced D.Disk result }
     {
         images_stay::<D>();
         log_outcomes::<D>();
@@ -195,7 +192,7 @@ impl<C: Capture, D: Disk> SerialWorld<C, D> {
 }
 
 impl<C: Capture, D: Disk> World for SerialWorld<C, D> {
-    ghost runs = { Runs D.content D.may_leave D.honest };
+    ghost runs = { Runs D.Disk };
 
     fn batch(&mut self, b: &Batch, text: &mut Vec<u8>) -> Result<(), Refusal> {
         self.state.batch(b, text)?;

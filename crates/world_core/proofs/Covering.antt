@@ -19,7 +19,7 @@ use Rattle.world_core.specs.declared.moves.Answer.{Answer}
 use Rattle.world_core.specs.declared.moves.Answer.TheVariants as answer
 use Rattle.world_core.specs.Standing.{cover_refusal_at, is_starting, queued_of, unless_refused}
 use Rattle.world_core.specs.Past.{Past, past_after}
-use Rattle.world_core.specs.State.{State, content_of, leaves_of}
+use Rattle.world_core.specs.State.{State, core_disk}
 use Rattle.world_core.specs.Laws.{KeeperLaws}
 use Rattle.world_core.specs.Exact.{IsCoverAnswer, Progresses}
 use Rattle.world_core.specs.Facts.{IsCoreAt}
@@ -51,26 +51,26 @@ log_of given = given_.Idle
 
 module _ (laws : EventLaws) (keepers : KeeperLaws) (past : Past) (old new : State) (tick : ℕ) (given : LogAnswer) (c : IsCoreAt past old) (over : old.log.starting ≡ false)
     (opened : tick ≤ newest_tick old.images.newest) (d : CoversQueue tick old given new) where
-  covered_from : Keeps content_of leaves_of new (replicate c.size 0) past.history.ticks (past_after past (move.Cover tick) (answer.Log given)).acknowledged c.images c.place
+  covered_from : Keeps core_disk new (replicate c.size 0) past.history.ticks (past_after past (move.Cover tick) (answer.Log given)).acknowledged c.images c.place
       × ReceiptIs given past.history.ticks new.queue
   covered_from =
-      let k = cover_follows content_of leaves_of laws keepers tick old given new (replicate c.size 0) past.history.ticks past.acknowledged over opened d c.follows in
-      (subst (λ n. Keeps content_of leaves_of new (replicate c.size 0) past.history.ticks n c.images c.place) (sym (counts past.acknowledged given)) k.0, k.1)
+      let k = cover_follows core_disk laws keepers tick old given new (replicate c.size 0) past.history.ticks past.acknowledged over opened d c.follows in
+      (subst (λ n. Keeps core_disk new (replicate c.size 0) past.history.ticks n c.images c.place) (sym (counts past.acknowledged given)) k.0, k.1)
 
-  pub cover_keeps : IsInOrder content_of true new → IsCoreAt (past_after past (move.Cover tick) (answer.Log given)) new
+  pub cover_keeps : IsInOrder core_disk new → IsCoreAt (past_after past (move.Cover tick) (answer.Log given)) new
   cover_keeps order =
       let after = past_after past (move.Cover tick) (answer.Log given) in
       let first : List ℕ = replicate c.size 0 in
       let moved : State = record old { queue = new.queue } in
       let taken = covered old.log tick old.queue in
-      let k : Keeps content_of leaves_of moved first past.history.ticks after.acknowledged c.images c.place =
-      subst (λ w. Keeps content_of leaves_of w first past.history.ticks after.acknowledged c.images c.place) d.rest covered_from.0 in
+      let k : Keeps core_disk moved first past.history.ticks after.acknowledged c.images c.place =
+      subst (λ w. Keeps core_disk w first past.history.ticks after.acknowledged c.images c.place) d.rest covered_from.0 in
       let is : IsCoreAt after moved = record {
         size = c.size;
         some_cells = c.some_cells;
         few_cells = c.few_cells;
         cells_are = c.cells_are;
-        order = subst (IsInOrder content_of true) d.rest order;
+        order = subst (IsInOrder core_disk) d.rest order;
         follows = k.follows;
         running = c.running;
         since = c.since;

@@ -21,7 +21,7 @@ use Rattle.engine.specs.Refusals.{is_down}
 use Rattle.engine.proofs.Beginning.{begins_follow, started_cells}
 use Rattle.world_core.specs.Standing.{Standing, standing_at, start_round, queued_of}
 use Rattle.world_core.specs.Past.{Past}
-use Rattle.world_core.specs.State.{File, State, content_of, leaves_of}
+use Rattle.world_core.specs.State.{File, State, core_disk}
 use Rattle.world_core.specs.Laws.{SafetyLaws}
 use Rattle.world_core.specs.Starting.{HasOnly, gates_of, Begins}
 use Rattle.world_core.specs.Facts.{IsCoreAt, is_known}
@@ -29,11 +29,11 @@ use Rattle.world_core.proofs.Exact.{still_reported}
 
 -- ---- files
 
-reports : SafetyLaws → (bytes : List ℕ) (file : File) → HasOnly bytes file → ReportsShut (is_shut bytes) (content_of file)
+reports : SafetyLaws → (bytes : List ℕ) (file : File) → HasOnly bytes file → ReportsShut (is_shut bytes) (core_disk.content file)
 reports laws bytes file h = subst (λ f. ReportsShut (is_shut bytes) f) (sym h.content) (laws.reported bytes)
 
-only : (bytes : List ℕ) (file : File) → HasOnly bytes file → Only (content_of file) (leaves_of file)
-only bytes file h = subst (λ f. Only f (leaves_of file)) (sym h.content) h.only
+only : (bytes : List ℕ) (file : File) → HasOnly bytes file → Only (core_disk.content file) (core_disk.may_leave file)
+only bytes file h = subst (λ f. Only f (core_disk.may_leave file)) (sym h.content) h.only
 
 -- ---- the images
 
@@ -66,7 +66,7 @@ abbrev pub start_at : ℕ → Segment → Segment → Start
 start_at tick before_a before_b = record { tick = tick; before_a = before_a; before_b = before_b; begun = false }
 
 pub begins_core : SafetyLaws → (newest : Option (Slot × ℕ)) (tick : ℕ) (words : List ℕ) (image_a image_b log_a log_b : List ℕ) (past : Past) (new : State)
-    → Begins newest tick words image_a image_b log_a log_b new → IsInOrder content_of true new → 1 ≤ length words → length words ≤ CELLS → tick ≤ TICK_MAX
+    → Begins newest tick words image_a image_b log_a log_b new → IsInOrder core_disk new → 1 ≤ length words → length words ≤ CELLS → tick ≤ TICK_MAX
     → (images : ImageFiles) → IsReported (length words) newest images image_a image_b → round_in images ≡ None
     → (before_a before_b : Segment) → IsSegment log_a before_a → IsSegment log_b before_b
     → length past.history.ticks ≡ tick → past.history.running ≡ [] → after_ticks (replicate (length words) 0) past.history.ticks ≡ Ok words
@@ -84,15 +84,14 @@ begins_core laws newest tick words image_a image_b log_a log_b past new b order 
     let keeper = made_keeper cells newest shut.image_a shut.image_b in
     let begun_at = images_begun round tick images in
     let place = start_of tick before_a before_b (start_moves shut.log_a shut.log_b) in
-    let k = begins_follow content_of leaves_of laws.keepers (replicate cells 0) newest tick words shut files new w (length-replicate cells 0) some few numbered
-    (record {
+    let k = begins_follow core_disk laws.keepers (replicate cells 0) newest tick words shut files new w (length-replicate cells 0) some few numbered (record {
       image_a = reports laws image_a files.image_a f.file_a;
       image_b = reports laws image_b files.image_b f.file_b;
       log_a = reports laws log_a files.log_a f.file_la;
       log_b = reports laws log_b files.log_b f.file_lb;
     })
     (only image_a files.image_a f.file_a) (only image_b files.image_b f.file_b) (only log_a files.log_a f.file_la) (only log_b files.log_b f.file_lb) images
-    (subst (λ x. IsReported cells newest images x (content_of files.image_b)) (sym f.file_a.content) (subst (λ x. IsReported cells newest images image_a x) (sym f.file_b.content) reported))
+    (subst (λ x. IsReported cells newest images x (core_disk.content files.image_b)) (sym f.file_a.content) (subst (λ x. IsReported cells newest images image_a x) (sym f.file_b.content) reported))
     before_a before_b (subst (λ x. IsSegment x before_a) (sym f.file_la.content) reads_a) (subst (λ x. IsSegment x before_b) (sym f.file_lb.content) reads_b)
     past.history.ticks past.acknowledged in_step after (sym count) in
     record {

@@ -19,7 +19,7 @@ use Rattle.engine.specs.Refusals.{is_down}
 use Rattle.engine.specs.Laws.{EventLaws}
 use Rattle.engine.proofs.Following.{Keeps, image_follows}
 use Rattle.recovery.specs.Events.{acknowledged_opened}
-use Rattle.world_core.specs.State.{State, content_of, leaves_of}
+use Rattle.world_core.specs.State.{State, core_disk}
 use Rattle.world_core.specs.Exact.{Progresses, IsImageAnswer}
 use Rattle.image_files.specs.Progress.{Progress, moves_left, left_of, opened_keeper, newest_tick}
 use Rattle.world_core.specs.Moving.{StepsImagesBy}
@@ -106,18 +106,18 @@ counts acknowledged given_.Working = refl
 counts acknowledged (given_.Opened tick) = refl
 counts acknowledged given_.Down = refl
 
-pub image_keeps : EventLaws → (past : Past) (old new : State) (fate : Fate) (given : ImageAnswer) → IsCoreAt past old → IsInOrder content_of true new
+pub image_keeps : EventLaws → (past : Past) (old new : State) (fate : Fate) (given : ImageAnswer) → IsCoreAt past old → IsInOrder core_disk new
     → StepsImagesBy fate old given new → IsCoreAt (past_after past (move.Image fate) (answer.Image given)) new
 image_keeps laws past old new fate given c order d =
     let after = past_after past (move.Image fate) (answer.Image given) in
     let first : List ℕ = replicate c.size 0 in
     let ticks = past.history.ticks in
     let moved : State = record old { content = new.content; images = new.images; files = record old.files { image_a = new.files.image_a; image_b = new.files.image_b } } in
-    let a = image_follows content_of leaves_of laws old new given first ticks past.acknowledged d.rest (d.stands refl) d.cells d.live c.follows in
+    let a = image_follows core_disk laws old new given first ticks past.acknowledged d.rest (d.stands refl) d.cells d.live c.follows in
     let next = a.follows.images in
-    let whole : Keeps content_of leaves_of new first ticks (acknowledged_opened past.acknowledged given) next c.place = record { follows = a.follows; images_are = refl; place_is = a.place } in
-    let k : Keeps content_of leaves_of moved first ticks after.acknowledged next c.place = subst (λ w. Keeps content_of leaves_of w first ticks after.acknowledged next c.place) d.rest
-    (subst (λ n. Keeps content_of leaves_of new first ticks n next c.place) (sym (counts past.acknowledged given)) whole) in
+    let whole : Keeps core_disk new first ticks (acknowledged_opened past.acknowledged given) next c.place = record { follows = a.follows; images_are = refl; place_is = a.place } in
+    let k : Keeps core_disk moved first ticks after.acknowledged next c.place = subst (λ w. Keeps core_disk w first ticks after.acknowledged next c.place) d.rest
+    (subst (λ n. Keeps core_disk new first ticks n next c.place) (sym (counts past.acknowledged given)) whole) in
     let after_seen = seen_after (length first) old.content new.content past.standing past.history.running fate past.has_image c.images given next a.steps
     (λ k. seen (c.reported.round k) (c.reported.newest k) (c.reported.is_image_known k)) in
     let st = image_standing past.standing past.history.running fate given in
@@ -126,7 +126,7 @@ image_keeps laws past old new fate given c order d =
       some_cells = c.some_cells;
       few_cells = c.few_cells;
       cells_are = d.cells ∙ c.cells_are;
-      order = subst (IsInOrder content_of true) d.rest order;
+      order = subst (IsInOrder core_disk) d.rest order;
       follows = k.follows;
       running = c.running;
       since = c.since ∙ sym st.since;

@@ -19,7 +19,7 @@ use Rattle.world_core.specs.Past.{Past, past_after}
 use Rattle.engine.specs.World.{IsInOrder, HasLog as WorldHasLog}
 use Rattle.engine.specs.Laws.{EventLaws}
 use Rattle.engine.proofs.Following.{Keeps, log_follows}
-use Rattle.world_core.specs.State.{State, content_of, leaves_of}
+use Rattle.world_core.specs.State.{State, core_disk}
 use Rattle.world_core.specs.Moving.{StepsLogBy}
 use Rattle.world_core.specs.Facts.{IsCoreAt}
 use Rattle.world_core.proofs.Exact.{still_reported}
@@ -82,7 +82,7 @@ counts acknowledged given_.Down = refl
 
 -- the log keeper and its files represent this log
 abbrev pub HasLog : State → LogPlace → Type 0
-HasLog = WorldHasLog content_of leaves_of
+HasLog = WorldHasLog core_disk
 
 none_in : (state : State) (journal : Journal) (left : ℕ) → HasLog state (record { journal = journal; left = left }) → (logs : Logs) → journal ≡ Writing logs → left ≡ 0
 none_in state (InStart start) left stands logs e = absurd (let g = e in cc)
@@ -92,7 +92,7 @@ none_in state (Writing current) left stands logs e = stands.1
 pub stays_down : (old new : State) (fate : Fate) (given : LogAnswer) → StepsLogBy fate old given new → old.log.down ≡ true → given ≡ given_.Down
 stays_down old new fate given d e = d.down.1 (ap (λ k. k.down) (d.rests (inr e)).0 ∙ e)
 
-pub log_keeps : EventLaws → (past : Past) (old new : State) (fate : Fate) (given : LogAnswer) → (c : IsCoreAt past old) → IsInOrder content_of true new
+pub log_keeps : EventLaws → (past : Past) (old new : State) (fate : Fate) (given : LogAnswer) → (c : IsCoreAt past old) → IsInOrder core_disk new
     → (old.log.starting ≡ false) ⊎ (round_in c.images ≡ None) → StepsLogBy fate old given new
     → IsCoreAt (past_after past (move.Log fate) (answer.Log given)) new
 log_keeps laws past old new fate given c order turn d =
@@ -100,18 +100,18 @@ log_keeps laws past old new fate given c order turn d =
     let first : List ℕ = replicate c.size 0 in
     let ticks = past.history.ticks in
     let moved : State = record old { queue = new.queue; log = new.log; files = record old.files { log_a = new.files.log_a; log_b = new.files.log_b } } in
-    let a = log_follows content_of leaves_of laws old new given first ticks past.acknowledged d.rest (d.stands refl) c.follows turn in
+    let a = log_follows core_disk laws old new given first ticks past.acknowledged d.rest (d.stands refl) c.follows turn in
     let place = a.follows.place in
-    let whole : Keeps content_of leaves_of new first ticks (log_acknowledged past.acknowledged given) c.images place = record { follows = a.follows; images_are = a.images; place_is = refl } in
-    let k : Keeps content_of leaves_of moved first ticks after.acknowledged c.images place = subst (λ w. Keeps content_of leaves_of w first ticks after.acknowledged c.images place) d.rest
-    (subst (λ n. Keeps content_of leaves_of new first ticks n c.images place) (sym (counts past.acknowledged given)) whole) in
+    let whole : Keeps core_disk new first ticks (log_acknowledged past.acknowledged given) c.images place = record { follows = a.follows; images_are = a.images; place_is = refl } in
+    let k : Keeps core_disk moved first ticks after.acknowledged c.images place = subst (λ w. Keeps core_disk w first ticks after.acknowledged c.images place) d.rest
+    (subst (λ n. Keeps core_disk new first ticks n c.images place) (sym (counts past.acknowledged given)) whole) in
     let st = log_standing past.standing past.history.running fate given in
     let is : IsCoreAt after moved = record {
       size = c.size;
       some_cells = c.some_cells;
       few_cells = c.few_cells;
       cells_are = c.cells_are;
-      order = subst (IsInOrder content_of true) d.rest order;
+      order = subst (IsInOrder core_disk) d.rest order;
       follows = k.follows;
       running = c.running;
       since = c.since ∙ sym st.since;

@@ -16,26 +16,26 @@ use Rattle.world_core.specs.declared.moves.Move.TheVariants as move
 use Rattle.world_core.specs.declared.moves.Answer.TheVariants as answer
 use Rattle.world_core.specs.Standing.{QueuedTick, QueuedSwitch, queued_of}
 use Rattle.world_core.specs.Past.{Past, past_after}
-use Rattle.world_core.specs.State.{State, content_of, leaves_of}
+use Rattle.world_core.specs.State.{State, core_disk}
 use Rattle.world_core.specs.Laws.{KeeperLaws}
 use Rattle.world_core.specs.Facts.{IsCoreAt, is_known}
 use Rattle.world_core.proofs.Exact.{still_reported}
 
-pub action_keeps : EventLaws → (past : Past) (old new : State) (action : Action) → IsCoreAt past old → IsInOrder content_of true new → old.log.starting ≡ false
+pub action_keeps : EventLaws → (past : Past) (old new : State) (action : Action) → IsCoreAt past old → IsInOrder core_disk new → old.log.starting ≡ false
     → DoesAction old action new → IsCoreAt (past_after past (move.Act action) answer.Did) new
 action_keeps laws past old new action c order over d =
     let after = past_after past (move.Act action) answer.Did in
     let first : List ℕ = replicate c.size 0 in
     let ticks = past.history.ticks in
     let next : State = record old { content = new.content; running = old.running ++ action ∷ [] } in
-    let k : Keeps content_of leaves_of next first ticks past.acknowledged c.images c.place = subst (λ w. Keeps content_of leaves_of w first ticks past.acknowledged c.images c.place) d.rest
-    (actions_follow content_of leaves_of laws old new (action ∷ []) first ticks past.acknowledged over (action_does content_of leaves_of old action new d) c.follows) in
+    let k : Keeps core_disk next first ticks past.acknowledged c.images c.place = subst (λ w. Keeps core_disk w first ticks past.acknowledged c.images c.place) d.rest
+    (actions_follow core_disk laws old new (action ∷ []) first ticks past.acknowledged over (action_does core_disk old action new d) c.follows) in
     let is : IsCoreAt after next = record {
       size = c.size;
       some_cells = c.some_cells;
       few_cells = c.few_cells;
       cells_are = c.cells_are;
-      order = subst (IsInOrder content_of true) d.rest order;
+      order = subst (IsInOrder core_disk) d.rest order;
       follows = k.follows;
       running = ap (λ r. r ++ action ∷ []) c.running;
       since = c.since;
@@ -46,7 +46,7 @@ action_keeps laws past old new action c order over d =
     } in
     subst (IsCoreAt after) (sym d.rest) is
 
-pub end_keeps : EventLaws → (past : Past) (old new : State) (number : ℕ) → IsCoreAt past old → IsInOrder content_of true new → old.log.starting ≡ false
+pub end_keeps : EventLaws → (past : Past) (old new : State) (number : ℕ) → IsCoreAt past old → IsInOrder core_disk new → old.log.starting ≡ false
     → old.since < SEGMENT_TICKS → EndsTick old new → IsCoreAt (past_after past move.End (answer.Ended number)) new
 end_keeps laws past old new number c order over few d =
     let after = past_after past move.End (answer.Ended number) in
@@ -55,16 +55,15 @@ end_keeps laws past old new number c order over few d =
     let tick = d.0 in
     let same : tick.list ≡ past.history.running = d.1 ∙ c.running in
     let next : State = record old { running = []; ended = old.ended + 1; since = old.since + 1; queue = old.queue ++ records.Tick tick ∷ [] } in
-    let k : Keeps content_of leaves_of next first (ticks ++ past.history.running ∷ []) past.acknowledged c.images c.place =
-    subst (λ r. Keeps content_of leaves_of next first (ticks ++ r ∷ []) past.acknowledged c.images c.place) c.running
-    (subst (λ w. Keeps content_of leaves_of w first (ticks ++ old.running ∷ []) past.acknowledged c.images c.place) d.2
-    (end_follows content_of leaves_of laws old new first ticks past.acknowledged over d c.follows)) in
+    let k : Keeps core_disk next first (ticks ++ past.history.running ∷ []) past.acknowledged c.images c.place =
+    subst (λ r. Keeps core_disk next first (ticks ++ r ∷ []) past.acknowledged c.images c.place) c.running
+    (subst (λ w. Keeps core_disk w first (ticks ++ old.running ∷ []) past.acknowledged c.images c.place) d.2 (end_follows core_disk laws old new first ticks past.acknowledged over d c.follows)) in
     let is : IsCoreAt after next = record {
       size = c.size;
       some_cells = c.some_cells;
       few_cells = c.few_cells;
       cells_are = c.cells_are;
-      order = subst (IsInOrder content_of true) d.2 order;
+      order = subst (IsInOrder core_disk) d.2 order;
       follows = k.follows;
       running = refl;
       since = ap (λ n. n + 1) c.since;
@@ -92,7 +91,7 @@ round_begun : (tick : ℕ) (images : ImageFiles) → option_map (λ (round : Rou
 round_begun tick (NoneYet images) = refl
 round_begun tick (Newest images) = refl
 
-pub mark_keeps : EventLaws → KeeperLaws → (past : Past) (old new : State) (number : ℕ) → IsCoreAt past old → IsInOrder content_of true new → MayMark old → number ≡ old.ended → BeginsRound old new
+pub mark_keeps : EventLaws → KeeperLaws → (past : Past) (old new : State) (number : ℕ) → IsCoreAt past old → IsInOrder core_disk new → MayMark old → number ≡ old.ended → BeginsRound old new
     → IsCoreAt (past_after past move.Mark (answer.Started number)) new
 mark_keeps laws keepers past old new number c order may is_number d =
     let after = past_after past move.Mark (answer.Started old.ended) in
@@ -100,14 +99,14 @@ mark_keeps laws keepers past old new number c order may is_number d =
     let ticks = past.history.ticks in
     let images = with_round old.ended c.images in
     let next : State = record old { content = new.content; since = 0; images = begun_keeper old.ended old.images; queue = old.queue ++ records.Switch old.ended ∷ [] } in
-    let k : Keeps content_of leaves_of next first ticks past.acknowledged images c.place = subst (λ w. Keeps content_of leaves_of w first ticks past.acknowledged images c.place) d.1
-    (mark_follows content_of leaves_of laws keepers old new first ticks past.acknowledged may.started may.running may.idle may.news c.order.cells c.order.most d c.follows) in
+    let k : Keeps core_disk next first ticks past.acknowledged images c.place = subst (λ w. Keeps core_disk w first ticks past.acknowledged images c.place) d.1
+    (mark_follows core_disk laws keepers old new first ticks past.acknowledged may.started may.running may.idle may.news c.order.cells c.order.most d c.follows) in
     let is : IsCoreAt after next = record {
       size = c.size;
       some_cells = c.some_cells;
       few_cells = c.few_cells;
       cells_are = c.cells_are;
-      order = subst (IsInOrder content_of true) d.1 order;
+      order = subst (IsInOrder core_disk) d.1 order;
       follows = k.follows;
       running = c.running;
       since = refl;

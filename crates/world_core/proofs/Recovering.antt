@@ -28,7 +28,7 @@ use Rattle.image_files.specs.Progress.{Progress, made_keeper}
 use Rattle.engine.specs.World.{IsInOrder}
 use Rattle.engine.specs.Laws.{EventLaws}
 use Rattle.engine.proofs.Beginning.{started_cells}
-use Rattle.world_core.specs.State.{State, content_of, files_in}
+use Rattle.world_core.specs.State.{State, files_in, core_disk}
 use Rattle.world_core.specs.Laws.{SafetyLaws}
 use Rattle.world_core.specs.Starting.{Begins, BeginsFresh, StandsOn}
 use Rattle.world_core.specs.Exact.{MayLeave, IsCrashAnswer}
@@ -117,7 +117,7 @@ recovered_past past r la lb = record {
   standing = standing_at r.from r.tick (nat_lt r.from r.tick) (is_shut la) (is_shut lb);
 }
 
-module _ (events : EventLaws) (safety : SafetyLaws) (past : Past) (old new : State) (c : IsCoreAt past old) (order : IsInOrder content_of true new) (ia ib la lb : List ℕ)
+module _ (events : EventLaws) (safety : SafetyLaws) (past : Past) (old new : State) (c : IsCoreAt past old) (order : IsInOrder core_disk new) (ia ib la lb : List ℕ)
     (may : MayLeave (files_in old) ia ib la lb) where
   recovered_restarts : (r : Recovery) (e : Recovers ia ib la lb (Ok r))
       → Restarts (replicate old.images.cells 0) past.history.ticks past.acknowledged r (image_of ia) (image_of ib) e.a e.b
@@ -149,7 +149,7 @@ blank_past past la lb = record { history = no_history; acknowledged = past.ackno
 
 begins_blank : EventLaws → SafetyLaws → (cells : ℕ) (past : Past) (new : State) (ia ib la lb : List ℕ) → 1 ≤ cells → cells ≤ CELLS → past.has_image ≡ false → past.acknowledged ≡ 0
     → image_of ia ≡ Closed → image_of ib ≡ Closed → IsSegment la ClosedSegment → IsSegment lb ClosedSegment
-    → Begins None 0 (replicate cells 0) ia ib la lb new → IsInOrder content_of true new → IsCoreAt (blank_past past la lb) new
+    → Begins None 0 (replicate cells 0) ia ib la lb new → IsInOrder core_disk new → IsCoreAt (blank_past past la lb) new
 begins_blank events safety cells past new ia ib la lb some few unknown unacknowledged closed_a closed_b reads_a reads_b begins order =
     let first : List ℕ = replicate cells 0 in
     let all : length first ≡ cells = length-replicate cells 0 in
@@ -161,7 +161,7 @@ begins_blank events safety cells past new ia ib la lb some few unknown unacknowl
     (subst (λ n. InStep first [] n new.content (images_begun true 0 (NoneYet (record { round = None }))) (InStart (start_at 0 ClosedSegment ClosedSegment)) []) (sym unacknowledged)
     (events.goes_on.fresh first new.content (some_zeros cells some) begins.world.store)))
 
-blank_keeps : EventLaws → SafetyLaws → (past : Past) (old new : State) (c : IsCoreAt past old) → IsInOrder content_of true new → (ia ib la lb : List ℕ)
+blank_keeps : EventLaws → SafetyLaws → (past : Past) (old new : State) (c : IsCoreAt past old) → IsInOrder core_disk new → (ia ib la lb : List ℕ)
     → MayLeave (files_in old) ia ib la lb → Recovers ia ib la lb (Err NoImage) → Begins None 0 (replicate old.images.cells 0) ia ib la lb new → IsCoreAt (blank_past past la lb) new
 blank_keeps events safety past old new c order ia ib la lb may e b =
     let s = blank safety (replicate old.images.cells 0) past.history.ticks past.acknowledged ia ib la lb e.a e.b e.reads_a e.reads_b
@@ -195,12 +195,12 @@ begins_empty cells words a b la lb new s ew ea eb ela elb =
     (subst (λ f. Begins None 0 words f [] [] [] new) ea
     (subst (λ f. Begins None 0 words a f [] [] new) eb (subst (λ f. Begins None 0 words a b f [] new) ela (subst (λ f. Begins None 0 words a b la f new) elb s))))
 
-pub fresh_core : EventLaws → SafetyLaws → (cells : ℕ) (new : State) → 1 ≤ cells → cells ≤ CELLS → BeginsFresh cells new → IsInOrder content_of true new → IsCoreAt fresh_past new
+pub fresh_core : EventLaws → SafetyLaws → (cells : ℕ) (new : State) → 1 ≤ cells → cells ≤ CELLS → BeginsFresh cells new → IsInOrder core_disk new → IsCoreAt fresh_past new
 fresh_core events safety cells new some few b order = begins_blank events safety cells fresh_past new [] [] [] [] some few refl refl closed_image closed_image closed_segment closed_segment b order
 
 -- ---- a core on the files that a crash left
 
-pub stands_keeps : EventLaws → SafetyLaws → (past : Past) (old new : State) (c : IsCoreAt past old) → IsInOrder content_of true new
+pub stands_keeps : EventLaws → SafetyLaws → (past : Past) (old new : State) (c : IsCoreAt past old) → IsInOrder core_disk new
     → (left : FourFiles (Vec ℕ Global)) → MayLeave (files_in old) left.image_a.items left.image_b.items left.log_a.items left.log_b.items
     → (given : Answer) → StandsOn old.images.cells left.image_a.items left.image_b.items left.log_a.items left.log_b.items given new → IsCoreAt (past_after past (move.Crash left) given) new
 stands_keeps events safety past old new c order left may (answer.Recovered tick from) s =
@@ -218,7 +218,7 @@ begun_cells newest tick words ia ib la lb new b = ap (λ (k : Progress). k.cells
 pub fresh_cells : (cells : ℕ) (new : State) → BeginsFresh cells new → new.images.cells ≡ cells
 fresh_cells cells new b = begun_cells None 0 (replicate cells 0) [] [] [] [] new b ∙ length-replicate cells 0
 
-pub stands_cells : EventLaws → SafetyLaws → (past : Past) (old new : State) (c : IsCoreAt past old) → IsInOrder content_of true new
+pub stands_cells : EventLaws → SafetyLaws → (past : Past) (old new : State) (c : IsCoreAt past old) → IsInOrder core_disk new
     → (left : FourFiles (Vec ℕ Global)) → MayLeave (files_in old) left.image_a.items left.image_b.items left.log_a.items left.log_b.items
     → (given : Answer) → StandsOn old.images.cells left.image_a.items left.image_b.items left.log_a.items left.log_b.items given new → new.images.cells ≡ old.images.cells
 stands_cells events safety past old new c order left may (answer.Recovered tick from) s =

@@ -15,7 +15,7 @@ use Rattle.recovery.specs.Sound.{IsSound, IsSoundReading, IsFresh}
 use Rattle.restart.specs.InStep.{IsSafe}
 use Rattle.world_core.specs.Past.{Past}
 use Rattle.engine.proofs.Sound.{follows_safe, fewer_sound}
-use Rattle.world_core.specs.State.{State, content_of, leaves_of, files_in}
+use Rattle.world_core.specs.State.{State, files_in, core_disk}
 use Rattle.world_core.specs.Laws.{SafetyLaws}
 use Rattle.world_core.specs.Facts.{IsCoreAt, is_known}
 use Rattle.world_core.specs.Headline.{AreSafe, FreshAreRecovered}
@@ -26,18 +26,20 @@ some_zeros cells some = omega (arith, length-replicate {A = ℕ} cells 0, some)
 
 -- an image is known exactly after the first
 by_known : (first : List ℕ) (state : State) (ticks : List (List Action)) (acknowledged count : ℕ) (images : ImageFiles) → acknowledged ≤ count
-    → IsSafe images (leaves_of state.files.image_a) (leaves_of state.files.image_b) (leaves_of state.files.log_a) (leaves_of state.files.log_b) first ticks count
+    → IsSafe images (core_disk.may_leave state.files.image_a) (core_disk.may_leave state.files.image_b)
+    (core_disk.may_leave state.files.log_a) (core_disk.may_leave state.files.log_b) first ticks count
     → AreSafe (is_known images) (files_in state) first ticks acknowledged
 by_known first state ticks acknowledged count (NoneYet images) fewer safe = (safe.0, safe.1, omega (arith, fewer, safe.2))
 by_known first state ticks acknowledged count (Newest images) fewer safe =
-    fewer_sound (leaves_of state.files.image_a) (leaves_of state.files.image_b) (leaves_of state.files.log_a) (leaves_of state.files.log_b) first ticks acknowledged count fewer safe
+    fewer_sound (core_disk.may_leave state.files.image_a) (core_disk.may_leave state.files.image_b)
+    (core_disk.may_leave state.files.log_a) (core_disk.may_leave state.files.log_b) first ticks acknowledged count fewer safe
 
 -- the law on which the headline rests
 pub core_is_safe : SafetyLaws → (past : Past) (state : State) → IsCoreAt past state → AreSafe past.has_image (files_in state) (replicate state.images.cells 0) past.history.ticks past.acknowledged
 core_is_safe laws past state c =
     let ticks = past.history.ticks in
     let first : List ℕ = replicate c.size 0 in
-    let safe = follows_safe content_of leaves_of laws.keepers state first ticks past.acknowledged c.follows in
+    let safe = follows_safe core_disk laws.keepers state first ticks past.acknowledged c.follows in
     subst (λ n. AreSafe past.has_image (files_in state) (replicate n 0) ticks past.acknowledged) (sym c.cells_are)
     (subst (λ h. AreSafe h (files_in state) first ticks past.acknowledged) (sym c.reported.is_image_known)
     (by_known first state ticks past.acknowledged c.follows.count c.images c.follows.at_least safe))

@@ -51,7 +51,7 @@ use Rattle.world_core.specs.declared.moves.Move.TheVariants as move
 use Rattle.world_core.specs.declared.moves.Answer.{Answer}
 use Rattle.world_core.specs.declared.moves.Answer.TheVariants as answer
 use Rattle.world_core.specs.Past.{Past, past_after, fresh_past}
-use Rattle.world_core.specs.State.{File, State, files_in, content_of, leaves_of}
+use Rattle.world_core.specs.State.{File, State, files_in, core_disk}
 use Rattle.world_core.specs.Starting.{HasOnly, Begins, BeginsFresh, StandsOn}
 use Rattle.world_core.specs.Moving.{is_failed, StepsImagesBy, StepsLogBy}
 use Rattle.world_core.specs.Exact.{MayLeave}
@@ -285,8 +285,7 @@ first_tick first ticks acknowledged images (Writing logs) queue round h some = a
 -- a round that ends leaves two images that are written, except the first one
 opened_written : KeeperLaws → (past : Past) (old new : State) (first : List ℕ) (count : ℕ) (images : ImageFiles) (journal : Journal) (round : Round)
     → HasPhase first past.history.ticks count images journal old.queue → round_in images ≡ Some round
-    → HasImages content_of leaves_of new (with_opened round images) → 0 < newest_tick (newest_in (with_opened round images))
-    → IsWritten 17 new.files.image_a.inner × IsWritten 17 new.files.image_b.inner
+    → HasImages core_disk new (with_opened round images) → 0 < newest_tick (newest_in (with_opened round images)) → IsWritten 17 new.files.image_a.inner × IsWritten 17 new.files.image_b.inner
 opened_written keepers past old new first count (NoneYet images) journal round phase some has after_first =
     absurd (omega (arith, after_first, first_tick first past.history.ticks count images journal old.queue round phase some))
 opened_written keepers past old new first count (Newest images) journal round phase some has after_first =
@@ -307,7 +306,7 @@ image_step_written keepers past fate old given new c s w after_first =
           let both = w.imaged before in
           (keeps.0 17 both.0, keeps.1 17 both.1))
       | inr opened ↦ (
-          let has = subst (HasImages content_of leaves_of new) opened.1 next.1 in
+          let has = subst (HasImages core_disk new) opened.1 next.1 in
           opened_written keepers past old new (replicate c.size 0) c.follows.count c.images c.place.journal opened.0 c.follows.in_step.phase opened.2 has
           (subst (λ n. 0 < newest_tick n) (is ∙ ap newest_in opened.1) after_first))
     ]
@@ -449,7 +448,7 @@ images_left B a b tick from words older ia ib chosen newest written oa ob is som
 )
 
 images_left_by : KeeperLaws → (past : Past) (state : State) (first : List ℕ) (count : ℕ) (images : ImageFiles) (journal : Journal)
-    → HasImages content_of leaves_of state images → HasPhase first past.history.ticks count images journal state.queue → AreWritten past state
+    → HasImages core_disk state images → HasPhase first past.history.ticks count images journal state.queue → AreWritten past state
     → (r : Recovery) (ia ib : List ℕ) (la lb : Segment) → IsBuilt r (image_of ia) (image_of ib) la lb
     → r.tick ≤ length past.history.ticks → IsCrashOutcome state.files.image_a.inner ia → IsCrashOutcome state.files.image_b.inner ib
     → 0 < r.from → (17 ≤ length ia) × (17 ≤ length ib)

@@ -11,7 +11,7 @@ use Rattle.engine.specs.Follows.{Follows}
 use Rattle.engine.specs.Refusals.{is_down}
 use Rattle.world_core.specs.Standing.{Queued, queued_of}
 use Rattle.world_core.specs.Past.{Past}
-use Rattle.world_core.specs.State.{State, content_of, leaves_of}
+use Rattle.world_core.specs.State.{State, core_disk}
 
 abbrev pub is_known : ImageFiles → Bool
 is_known (NoneYet images) = false
@@ -35,9 +35,8 @@ pub record IsCoreAt (past : Past) (state : State) : Type 0 where
   pub some_cells : 1 ≤ size
   pub few_cells : size ≤ CELLS
   pub cells_are : state.images.cells ≡ size
-  pub order : IsInOrder content_of true state
-  pub follows : Follows content_of leaves_of state (replicate size 0) past.history.ticks
-      past.acknowledged
+  pub order : IsInOrder core_disk state
+  pub follows : Follows core_disk state (replicate size 0) past.history.ticks past.acknowledged
   pub open follows use {images, place, has_images, has_log}
   pub running : state.running ≡ past.history.running
   pub since : state.since ≡ past.standing.since

@@ -6,10 +6,10 @@ use Rattle.action_log.specs.Spellings.{ReadsOnce}
 use Rattle.recovery.specs.Restart.{CrashRestarts}
 use Rattle.restart.specs.Start.{is_shut}
 use Rattle.engine.specs.Laws.{KeeperLaws as WorldKeeperLaws}
-use Rattle.world_core.specs.State.{content_of, leaves_of}
+use Rattle.world_core.specs.State.{core_disk}
 
 abbrev pub KeeperLaws : Type 0
-KeeperLaws = WorldKeeperLaws content_of leaves_of
+KeeperLaws = WorldKeeperLaws core_disk
 
 -- the files of a core are safe, a crash begins the next start, and each file has only one reading
 pub record SafetyLaws : Type 0 where

@@ -15,7 +15,7 @@ use Rattle.engine.specs.Fuses.{images_armed, log_armed}
 use Rattle.engine.specs.Refusals.{is_in_round}
 use Rattle.engine.specs.Steps.{DoesAction, EndsTick, BeginsRound, TakesImageStep, TakesLogStep}
 use Rattle.engine.specs.Steps.{CoversQueue}
-use Rattle.world_core.specs.State.{State, content_of, leaves_of, failures}
+use Rattle.world_core.specs.State.{State, core_disk}
 use Rattle.world_core.specs.Starting.{StandsOn}
 
 abbrev pub is_failed : Fate → Bool
@@ -26,13 +26,11 @@ is_failed fate_.Failed = true
 -- itself. With Failed the call of the step fails.
 abbrev pub StepsImagesBy : Fate → (old : State) → ImageAnswer → (new : State) → Type 0
 StepsImagesBy fate old given new =
-    TakesImageStep content_of leaves_of true failures (CallsThrough Calls)
-    (images_armed (is_failed fate) old) given new
+    TakesImageStep core_disk (images_armed (is_failed fate) old) given new
 
 abbrev pub StepsLogBy : Fate → (old : State) → LogAnswer → (new : State) → Type 0
 StepsLogBy fate old given new =
-    TakesLogStep content_of leaves_of true failures (CallsThrough Calls)
-    (log_armed (is_failed fate) old) given new
+    TakesLogStep core_disk (log_armed (is_failed fate) old) given new
 
 -- the log's part of a start waits for the image
 abbrev pub Waits : State → Type 0

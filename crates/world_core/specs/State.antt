@@ -1,8 +1,9 @@
 -- The state of a core: a world whose four files are in memory.
-use Rattle.std.specs.Prelude.{ℕ, List, min}
+use Rattle.std.specs.Prelude.{ℕ, true, min}
 use Rattle.disk_model.specs.Disk.{last_count}
-use Rattle.disk_model.specs.FileState.{FileState}
-use Rattle.disk_model.specs.Fused.{Fuse, fault_count}
+use Rattle.disk_model.specs.FileState.{FileState, Calls}
+use Rattle.disk_model.specs.Fused.{Fuse, fault_count, CallsThrough}
+use Rattle.disk_model.specs.declared.disk.Disk.{Ghosts}
 use Rattle.disk_model.specs.CrashOutcome.{IsCrashOutcome}
 use Rattle.disk_model.specs.declared.four_files.FourFiles.{FourFiles}
 use Rattle.engine.specs.World.{World}
@@ -13,13 +14,6 @@ File = Fuse FileState
 
 abbrev pub State : Type 0
 State = World File
-
--- the bytes that a read gives, and those that a crash may leave
-abbrev pub content_of : File → List ℕ
-content_of file = file.inner.content
-
-abbrev pub leaves_of : File → List ℕ → Type 0
-leaves_of file = IsCrashOutcome file.inner
 
 -- its four files, without the fuses that make their calls fail
 abbrev pub files_in : State → FourFiles FileState
@@ -33,3 +27,13 @@ files_in state = record {
 -- how often a call of a file failed
 abbrev pub failures : File → ℕ
 failures file = fault_count (λ (below : FileState). min below.faults last_count) file
+
+-- the bytes that a read of a file gives, those that a crash may leave of it, and its calls
+abbrev pub core_disk : Ghosts File
+core_disk = record {
+  content = λ file. file.inner.content;
+  may_leave = λ file. IsCrashOutcome file.inner;
+  honest = true;
+  faults = failures;
+  called = CallsThrough Calls;
+}

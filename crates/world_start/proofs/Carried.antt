@@ -3,6 +3,7 @@ use Rattle.std.proofs.Common.{◌≡◌, ℕ, Bool, true, false, ◌&&◌, not, 
 use Rattle.world_actions.specs.declared.refusal.Refusal.{Refusal}
 use Rattle.disk_model.specs.FourFiles.{EachFile, KeepsFile, mapped}
 use Rattle.disk_model.specs.declared.four_files.FourFiles.{FourFiles}
+use Rattle.disk_model.specs.declared.disk.Disk.{Ghosts}
 use Rattle.file_format.specs.declared.gate.TheConstants.{OPEN_GATE}
 use Rattle.image_files.specs.Image.{Image, image_of}
 use Rattle.image_files.specs.ImageRead.{IsFront}
@@ -83,11 +84,15 @@ module _ {D : Type 0} (file : D → List ℕ) (files : FourFiles D) (ia ib la lb
           subst (λ s. ReportsShut s after) (sym (is ∙ shut_same before bytes front ∙ ap is_shut (sym same))) (reported after)
 
 -- bytes with this recovery, which are those of the files if these keep to the disk model
-pub chosen : {D : Type 0} (file : D → List ℕ) (honest : Bool) (files : FourFiles D) (x : Result Recovery Refusal)
-    (ia ib la lb : List ℕ) → Recovers ia ib la lb x → (IsTrue honest → AreFilesRead file files ia ib la lb) → RecoversBytes file honest files x
-chosen file true files x ia ib la lb e read = record { bytes = mapped file files; recovers = read_recovers file files ia ib la lb (read refl) x e; read = λ honest. refl }
-chosen file false files x ia ib la lb e read = record {
+chosen_by : {D : Type 0} (disk : Ghosts D) (honest : Bool) → disk.honest ≡ honest → (files : FourFiles D) (x : Result Recovery Refusal)
+    (ia ib la lb : List ℕ) → Recovers ia ib la lb x → (IsTrue honest → AreFilesRead disk.content files ia ib la lb) → RecoversBytes disk files x
+chosen_by disk true is files x ia ib la lb e read = record { bytes = mapped disk.content files; recovers = read_recovers disk.content files ia ib la lb (read refl) x e; read = λ honest. refl }
+chosen_by disk false is files x ia ib la lb e read = record {
   bytes = record { image_a = ia; image_b = ib; log_a = la; log_b = lb };
   recovers = e;
-  read = λ honest. absurd (let h = honest in cc);
+  read = λ honest. absurd (let h = honest in let i = is in cc);
 }
+
+pub chosen : {D : Type 0} (disk : Ghosts D) (files : FourFiles D) (x : Result Recovery Refusal)
+    (ia ib la lb : List ℕ) → Recovers ia ib la lb x → (IsTrue disk.honest → AreFilesRead disk.content files ia ib la lb) → RecoversBytes disk files x
+chosen disk = chosen_by disk disk.honest refl

@@ -7,6 +7,7 @@ use Rattle.world_actions.specs.declared.refusal.Refusal.TheVariants.{Device, Not
 use Rattle.world_actions.specs.declared.world.TheConstants.{CELLS}
 use Rattle.disk_model.specs.FourFiles.{EachFile, KeepsFile}
 use Rattle.disk_model.specs.declared.four_files.FourFiles.{FourFiles}
+use Rattle.disk_model.specs.declared.disk.Disk.{Ghosts}
 use Rattle.image_files.specs.Images.{ImageFiles, NoneYet, Newest}
 use Rattle.action_log.specs.declared.progress.Progress.{Progress as LogProgress}
 use Rattle.image_files.specs.Image.{image_of}
@@ -42,10 +43,10 @@ pub if_refused : {T : Type 0} (r : Result T Refusal) (P Q : Refusal → Type 0) 
 if_refused (Ok value) P Q f h = tt
 if_refused (Err refusal) P Q f h = f refusal h
 
-module _ {D : Type 0} (file : D → List ℕ) (leaves : D → List ℕ → Type 0) where
-  pub fresh_begun : EventLaws → KeeperLaws file leaves → (files left : FourFiles D) → EachFile files left (KeepsFile file leaves) → FilesAreClosed file files → (cells : ℕ) → 1 ≤ cells → cells ≤ CELLS
-      → (words : List ℕ) → words ≡ replicate cells 0 → (shut : FourFiles Bool) → AreGates file left shut → (world : World D)
-      → Begins None 0 words shut left world → IsBegunFresh file leaves files cells world
+module _ {D : Type 0} (disk : Ghosts D) where
+  pub fresh_begun : EventLaws → KeeperLaws disk → (files left : FourFiles D) → EachFile files left (KeepsFile disk) → FilesAreClosed disk.content files → (cells : ℕ) → 1 ≤ cells → cells ≤ CELLS
+      → (words : List ℕ) → words ≡ replicate cells 0 → (shut : FourFiles Bool) → AreGates disk.content left shut → (world : World D)
+      → Begins None 0 words shut left world → IsBegunFresh disk files cells world
   fresh_begun events keepers files left kept closed cells some few words zeros shut gates world b =
       let first : List ℕ = replicate cells 0 in
       let all : length first ≡ cells = length-replicate cells 0 in
@@ -57,9 +58,8 @@ module _ {D : Type 0} (file : D → List ℕ) (leaves : D → List ℕ → Type 
         starting = ap (λ (k : LogProgress). k.starting) b.log;
         queue = b.queue;
         follows = λ synced.
-            (let s = synced_on file leaves files left kept synced in
-            (begins_follow file leaves keepers first None 0 first shut left world begun refl (omega (arith, some, all)) (omega (arith, few, all)) (omega arith) gates s.image_a s.image_b s.log_a
-            s.log_b
+            (let s = synced_on disk files left kept synced in
+            (begins_follow disk keepers first None 0 first shut left world begun refl (omega (arith, some, all)) (omega (arith, few, all)) (omega arith) gates s.image_a s.image_b s.log_a s.log_b
             (NoneYet (record { round = None }))
             (refl, refl, ap image_of kept.image_a.same_content ∙ closed.image_a_closed, ap image_of kept.image_b.same_content ∙ closed.image_b_closed) ClosedSegment ClosedSegment
             (subst (λ f. IsSegment f ClosedSegment) (sym kept.log_a.same_content) closed.log_a_closed) (subst (λ f. IsSegment f ClosedSegment) (sym kept.log_b.same_content) closed.log_b_closed)
@@ -72,13 +72,13 @@ safe_fresh (NoneYet images) a b la lb first count s = inl s.0
 safe_fresh (Newest images) a b la lb first count s = inr (fewer_sound a b la lb first [] 0 count (omega arith) s)
 
 -- the files of a new world after a start that a device ended
-pub start_failed : {D : Type 0} (file : D → List ℕ) (leaves : D → List ℕ → Type 0) → KeeperLaws file leaves → (files : FourFiles D) (cells : ℕ) (last : World D) (refusal : Refusal) → refusal ≡ Device
-    → (AreSynced file leaves files → Follows file leaves last (replicate cells 0) [] 0) → AreNotMade file leaves files cells refusal last.files
-start_failed file leaves laws files cells last refusal is follows = record {
+pub start_failed : {D : Type 0} (disk : Ghosts D) → KeeperLaws disk → (files : FourFiles D) (cells : ℕ) (last : World D) (refusal : Refusal) → refusal ≡ Device
+    → (AreSynced disk files → Follows disk last (replicate cells 0) [] 0) → AreNotMade disk files cells refusal last.files
+start_failed disk laws files cells last refusal is follows = record {
   not_empty = λ other. absurd (let e : Device ≡ NotEmpty = sym is ∙ other in let h = e in cc);
   kept = λ other. absurd (other is);
   safe = λ synced closed.
       (let f = follows synced in
-      safe_fresh f.images (leaves last.files.image_a) (leaves last.files.image_b) (leaves last.files.log_a) (leaves last.files.log_b) (replicate cells 0) f.count
-      (follows_safe file leaves laws last (replicate cells 0) [] 0 f));
+      safe_fresh f.images (disk.may_leave last.files.image_a) (disk.may_leave last.files.image_b) (disk.may_leave last.files.log_a) (disk.may_leave last.files.log_b) (replicate cells 0) f.count
+      (follows_safe disk laws last (replicate cells 0) [] 0 f));
 }

@@ -9,6 +9,7 @@ use Rattle.world_actions.specs.World.{IsWorld}
 use Rattle.world_ticks.specs.declared.tick.TheConstants.{TICK_MAX}
 use Rattle.disk_model.specs.FourFiles.{EachFile, KeepsFile}
 use Rattle.disk_model.specs.declared.four_files.FourFiles.{FourFiles}
+use Rattle.disk_model.specs.declared.disk.Disk.{Ghosts}
 use Rattle.image_files.specs.Image.{image_of}
 use Rattle.image_files.specs.Images.{Newest}
 use Rattle.image_files.specs.Progress.{Progress as ImageProgress}
@@ -76,15 +77,15 @@ not_a_device ia ib la lb e =
     (not_recovered (newest (image_of ia) (image_of ib)) e.a e.b) e.holds
 
 -- a recovery of the bytes that were read is one of the files
-pub found_recovers : {D : Type 0} (file : D → List ℕ) (honest : Bool) (files : FourFiles D) (found : Recovered) → IsFound file honest files found → IsTrue honest
-    → RecoversFiles file files (recovery_of_answer found)
-found_recovers file honest files found f sure = subst (λ bytes. RecoversAll bytes (Ok (recovery_of_answer found))) (f.read sure) f.recovers
+pub found_recovers : {D : Type 0} (disk : Ghosts D) (files : FourFiles D) (found : Recovered) → IsFound disk files found → IsTrue disk.honest
+    → RecoversFiles disk.content files (recovery_of_answer found)
+found_recovers disk files found f sure = subst (λ bytes. RecoversAll bytes (Ok (recovery_of_answer found))) (f.read sure) f.recovers
 
-module _ {D : Type 0} (file : D → List ℕ) (leaves : D → List ℕ → Type 0) where
+module _ {D : Type 0} (disk : Ghosts D) where
   -- files of a new world from which one is recovered are sound
-  new_world_sound : ReadsOnce → (r : Recovery) (files : FourFiles D) → Recovers (file files.image_a) (file files.image_b) (file files.log_a) (file files.log_b) (Ok r)
-      → (first : List ℕ) → AreSynced file leaves files → IsFresh (leaves files.image_a) (leaves files.image_b) (leaves files.log_a) (leaves files.log_b) first
-      → AreSound file leaves files first [] 0
+  new_world_sound : ReadsOnce → (r : Recovery) (files : FourFiles D) → Recovers (disk.content files.image_a) (disk.content files.image_b) (disk.content files.log_a) (disk.content files.log_b) (Ok r)
+      → (first : List ℕ) → AreSynced disk files → IsFresh (disk.may_leave files.image_a) (disk.may_leave files.image_b) (disk.may_leave files.log_a) (disk.may_leave files.log_b) first
+      → AreSound disk files first [] 0
   new_world_sound once r files e first synced fresh = λ a b la lb ha hb hla hlb.
       let f = fresh a b la lb ha hb hla hlb in
       let at = recovers_on (Ok r) (sym (synced.image_a a ha)) (sym (synced.image_b b hb)) (sym (synced.log_a la hla)) (sym (synced.log_b lb hlb)) e in
@@ -94,22 +95,23 @@ module _ {D : Type 0} (file : D → List ℕ) (leaves : D → List ℕ → Type 
       record { a = f.a; b = f.b; reads_a = f.reads_a; reads_b = f.reads_b; holds = new_reading (image_of a) (image_of b) f.a f.b first r f.holds there }
 
   -- files of a world from which one is recovered are sound for its ticks
-  pub world_sound : ReadsOnce → (r : Recovery) (files : FourFiles D) → Recovers (file files.image_a) (file files.image_b) (file files.log_a) (file files.log_b) (Ok r)
-      → (first : List ℕ) (ticks : List (List Action)) (acknowledged : ℕ) → AreOfWorld file leaves files first ticks acknowledged → AreSound file leaves files first ticks acknowledged
+  pub world_sound : ReadsOnce → (r : Recovery) (files : FourFiles D) → Recovers (disk.content files.image_a) (disk.content files.image_b) (disk.content files.log_a) (disk.content files.log_b) (Ok r)
+      → (first : List ℕ) (ticks : List (List Action)) (acknowledged : ℕ) → AreOfWorld disk files first ticks acknowledged → AreSound disk files first ticks acknowledged
   world_sound once r files e first ticks acknowledged w = elim w.world [
     | inl sound ↦ sound
-    | inr new ↦ subst (λ t. AreSound file leaves files first t acknowledged) (sym new.1)
-        (subst (λ n. AreSound file leaves files first [] n) (sym new.2) (new_world_sound once r files e first w.synced new.0))
+    | inr new ↦ subst (λ t. AreSound disk files first t acknowledged) (sym new.1) (subst (λ n. AreSound disk files first [] n) (sym new.2) (new_world_sound once r files e first w.synced new.0))
   ]
 
   -- synced files keep all acknowledged ticks, and each recovered one may count as acknowledged
-  pub all_recovered : ReadsOnce → ((disk : D) → leaves disk (file disk)) → (r : Recovery) (files : FourFiles D)
-      → Recovers (file files.image_a) (file files.image_b) (file files.log_a) (file files.log_b) (Ok r)
-      → (first : List ℕ) (ticks : List (List Action)) (acknowledged : ℕ) → AreSynced file leaves files → AreSound file leaves files first ticks acknowledged
-      → (acknowledged ≤ r.tick) × AreSound file leaves files first ticks r.tick
+  pub all_recovered : ReadsOnce → ((file : D) → disk.may_leave file (disk.content file)) → (r : Recovery) (files : FourFiles D)
+      → Recovers (disk.content files.image_a) (disk.content files.image_b) (disk.content files.log_a) (disk.content files.log_b) (Ok r)
+      → (first : List ℕ) (ticks : List (List Action)) (acknowledged : ℕ) → AreSynced disk files → AreSound disk files first ticks acknowledged
+      → (acknowledged ≤ r.tick) × AreSound disk files first ticks r.tick
   all_recovered once stays r files e first ticks acknowledged synced sound =
-      let read = sound (file files.image_a) (file files.image_b) (file files.log_a) (file files.log_b) (stays files.image_a) (stays files.image_b) (stays files.log_a) (stays files.log_b) in
-      let here = recovers_once once (file files.image_a) (file files.image_b) (file files.log_a) (file files.log_b) first ticks acknowledged r read e in (
+      let read =
+      sound (disk.content files.image_a) (disk.content files.image_b) (disk.content files.log_a) (disk.content files.log_b)
+      (stays files.image_a) (stays files.image_b) (stays files.log_a) (stays files.log_b) in
+      let here = recovers_once once (disk.content files.image_a) (disk.content files.image_b) (disk.content files.log_a) (disk.content files.log_b) first ticks acknowledged r read e in (
         subst (λ (k : Recovery). acknowledged ≤ k.tick) here read.holds.keeps,
         λ a b la lb ha hb hla hlb.
             let s = sound a b la lb ha hb hla hlb in
@@ -120,9 +122,8 @@ module _ {D : Type 0} (file : D → List ℕ) (leaves : D → List ℕ → Type 
             record { a = s.a; b = s.b; reads_a = s.reads_a; reads_b = s.reads_b; holds = holds },
       )
 
-module _ {D : Type 0} (file : D → List ℕ) (leaves : D → List ℕ → Type 0) where
   -- files that were only read stay synced
-  pub synced_on : (files left : FourFiles D) → EachFile files left (KeepsFile file leaves) → AreSynced file leaves files → AreSynced file leaves left
+  pub synced_on : (files left : FourFiles D) → EachFile files left (KeepsFile disk) → AreSynced disk files → AreSynced disk left
   synced_on files left kept s = record {
     image_a = λ bytes h. s.image_a bytes (kept.image_a.crash bytes h) ∙ sym kept.image_a.same_content;
     image_b = λ bytes h. s.image_b bytes (kept.image_b.crash bytes h) ∙ sym kept.image_b.same_content;
@@ -131,13 +132,13 @@ module _ {D : Type 0} (file : D → List ℕ) (leaves : D → List ℕ → Type 
   }
 
   -- and they stay sound
-  pub sound_on : (files left : FourFiles D) → EachFile files left (KeepsFile file leaves)
-      → (first : List ℕ) (ticks : List (List Action)) (acknowledged : ℕ) → AreSound file leaves files first ticks acknowledged → AreSound file leaves left first ticks acknowledged
+  pub sound_on : (files left : FourFiles D) → EachFile files left (KeepsFile disk)
+      → (first : List ℕ) (ticks : List (List Action)) (acknowledged : ℕ) → AreSound disk files first ticks acknowledged → AreSound disk left first ticks acknowledged
   sound_on files left kept first ticks acknowledged s a b la lb ha hb hla hlb = s a b la lb (kept.image_a.crash a ha) (kept.image_b.crash b hb) (kept.log_a.crash la hla) (kept.log_b.crash lb hlb)
 
   -- and they stay those of a world
-  world_on : (files left : FourFiles D) → EachFile files left (KeepsFile file leaves) → (first : List ℕ) (ticks : List (List Action)) (acknowledged : ℕ)
-      → AreOfWorld file leaves files first ticks acknowledged → AreOfWorld file leaves left first ticks acknowledged
+  world_on : (files left : FourFiles D) → EachFile files left (KeepsFile disk) → (first : List ℕ) (ticks : List (List Action)) (acknowledged : ℕ)
+      → AreOfWorld disk files first ticks acknowledged → AreOfWorld disk left first ticks acknowledged
   world_on files left kept first ticks acknowledged w = record {
     synced = synced_on files left kept w.synced;
     world = elim w.world [
@@ -147,16 +148,16 @@ module _ {D : Type 0} (file : D → List ℕ) (leaves : D → List ℕ → Type 
   }
 
   -- the world in sound files begins a start in step with the recovered ticks
-  recovered_follows : EventLaws → KeeperLaws file leaves → ReadsOnce → CrashRestarts → ((disk : D) → leaves disk (file disk))
-      → (r : Recovery) (shut : FourFiles Bool) (files : FourFiles D) (world : World D) → IsWorld r.words → r.tick ≤ TICK_MAX → RecoversFiles file files r → AreGates file files shut
+  recovered_follows : EventLaws → KeeperLaws disk → ReadsOnce → CrashRestarts → ((file : D) → disk.may_leave file (disk.content file))
+      → (r : Recovery) (shut : FourFiles Bool) (files : FourFiles D) (world : World D) → IsWorld r.words → r.tick ≤ TICK_MAX → RecoversFiles disk.content files r → AreGates disk.content files shut
       → Begins (Some (r.slot, r.from)) r.tick r.words shut files world
-      → (first : List ℕ) (ticks : List (List Action)) (acknowledged : ℕ) → AreSynced file leaves files → AreSound file leaves files first ticks acknowledged
-      → Follows file leaves world first (take r.tick ticks) acknowledged
+      → (first : List ℕ) (ticks : List (List Action)) (acknowledged : ℕ) → AreSynced disk files → AreSound disk files first ticks acknowledged
+      → Follows disk world first (take r.tick ticks) acknowledged
   recovered_follows events keepers once restarts stays r shut files world is_world most e gates b first ticks acknowledged synced sound =
-      let ia = file files.image_a in
-      let ib = file files.image_b in
-      let la = file files.log_a in
-      let lb = file files.log_b in
+      let ia = disk.content files.image_a in
+      let ib = disk.content files.image_b in
+      let la = disk.content files.log_a in
+      let lb = disk.content files.log_b in
       let read = sound ia ib la lb (stays files.image_a) (stays files.image_b) (stays files.log_a) (stays files.log_b) in
       let holds : IsSoundReading (image_of ia) (image_of ib) e.a e.b first ticks acknowledged =
       subst (λ x. IsSoundReading (image_of ia) (image_of ib) x e.b first ticks acknowledged) (once la read.a e.a read.reads_a e.reads_a)
@@ -165,13 +166,13 @@ module _ {D : Type 0} (file : D → List ℕ) (leaves : D → List ℕ → Type 
       let some : 1 ≤ length first = omega (arith, s.whole, is_world.some) in
       let step = events.goes_on.recovery first ticks acknowledged r (image_of ia) (image_of ib) e.a e.b world.content some s b.store in
       let count : length (take r.tick ticks) ≡ r.tick = length-take-le r.tick ticks s.world.ended in
-      (begins_follow file leaves keepers first (Some (r.slot, r.from)) r.tick r.words shut files world b (sym s.whole) is_world.some is_world.most most gates
+      (begins_follow disk keepers first (Some (r.slot, r.from)) r.tick r.words shut files world b (sym s.whole) is_world.some is_world.most most gates
       synced.image_a synced.image_b synced.log_a synced.log_b
       (Newest (recovered_images r (image_of ia) (image_of ib))) (refl, refl, s.newest_whole ∙ sym s.whole, by_slot r.slot ia ib ∙ s.chosen, by_other r.slot ia ib)
       e.a e.b e.reads_a e.reads_b (take r.tick ticks) acknowledged step s.world.words_are (sym count)).follows
 
   -- files that are only read before they are recovered
-  pub read_on : (files mid : FourFiles D) → EachFile files mid (KeepsFile file leaves) → (world : World D) (from : ℕ) → IsRead file leaves mid world from → IsRead file leaves files world from
+  pub read_on : (files mid : FourFiles D) → EachFile files mid (KeepsFile disk) → (world : World D) (from : ℕ) → IsRead disk mid world from → IsRead disk files world from
   read_on files mid kept world from read = record {
     matches = record {
       recovery = read.recovery;
@@ -186,9 +187,9 @@ module _ {D : Type 0} (file : D → List ℕ) (leaves : D → List ℕ → Type 
   }
 
   -- the result of reading the files, recovering them and beginning the start
-  pub is_read : EventLaws → KeeperLaws file leaves → ReadsOnce → CrashRestarts → ((disk : D) → leaves disk (file disk))
-      → (files left : FourFiles D) → EachFile files left (KeepsFile file leaves) → (r : Recovery) (shut : FourFiles Bool) (world : World D) → IsWorld r.words → r.tick ≤ TICK_MAX
-      → RecoversFiles file files r → AreGates file left shut → Begins (Some (r.slot, r.from)) r.tick r.words shut left world → IsRead file leaves files world r.from
+  pub is_read : EventLaws → KeeperLaws disk → ReadsOnce → CrashRestarts → ((file : D) → disk.may_leave file (disk.content file))
+      → (files left : FourFiles D) → EachFile files left (KeepsFile disk) → (r : Recovery) (shut : FourFiles Bool) (world : World D) → IsWorld r.words → r.tick ≤ TICK_MAX
+      → RecoversFiles disk.content files r → AreGates disk.content left shut → Begins (Some (r.slot, r.from)) r.tick r.words shut left world → IsRead disk files world r.from
   is_read events keepers once restarts stays files left kept r shut world is_world most there gates b =
       let here = recovers_on (Ok r) (sym kept.image_a.same_content) (sym kept.image_b.same_content) (sym kept.log_a.same_content) (sym kept.log_b.same_content) there in
       record {
@@ -197,8 +198,7 @@ module _ {D : Type 0} (file : D → List ℕ) (leaves : D → List ℕ → Type 
             λ none.
             (let e : Some (r.slot, r.from) ≡ None = sym (ap (λ (k : ImageProgress). k.newest) b.images ∙ started_newest (nat_lt r.from r.tick) r.tick _) ∙ none in absurd (let h = e in cc));
         follows = λ first ticks acknowledged w.
-            let all = all_recovered file leaves once stays r files there first ticks acknowledged w.synced (world_sound file leaves once r files there first ticks acknowledged w) in (
-              all.0,
+            let all = all_recovered disk once stays r files there first ticks acknowledged w.synced (world_sound disk once r files there first ticks acknowledged w) in ( all.0,
               recovered_follows events keepers once restarts stays r shut left world is_world most here gates b first ticks r.tick
                   (synced_on files left kept w.synced) (sound_on files left kept first ticks r.tick all.1),
             );

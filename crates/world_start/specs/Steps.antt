@@ -2,6 +2,7 @@
 use Rattle.std.specs.Prelude.{◌≡◌, ℕ, Bool, true, false, List, [], All, replicate, Ok}
 use Rattle.world_actions.specs.World.{IsWord}
 use Rattle.disk_model.specs.declared.four_files.FourFiles.{FourFiles}
+use Rattle.disk_model.specs.declared.disk.Disk.{Ghosts}
 use Rattle.image_files.specs.declared.phase.Phase.TheVariants.{Down}
 use Rattle.recovery.specs.Recovered.{recovery_of_answer}
 use Rattle.recovery.specs.declared.recovered.Recovered.{Recovered}
@@ -22,19 +23,17 @@ pub record IsAhead {D : Type 0} (world : World D) (words : List ℕ) : Type 0 wh
 -- ---- reading
 
 -- recovery of the bytes that were read found this
-abbrev pub IsFound : {D : Type 0} → (file : D → List ℕ) → (honest : Bool) → FourFiles D → Recovered
-    → Type 0
-IsFound file honest files found = RecoversBytes file honest files (Ok (recovery_of_answer found))
+abbrev pub IsFound : {D : Type 0} → (disk : Ghosts D) → FourFiles D → Recovered → Type 0
+IsFound disk files found = RecoversBytes disk files (Ok (recovery_of_answer found))
 
 -- ---- making files
 
 -- a world of zeros begins its start on files that held none
-pub record IsBegunFresh {D : Type 0} (file : D → List ℕ) (leaves : D → List ℕ → Type 0)
-    (files : FourFiles D) (cells : ℕ) (world : World D) : Type 0 where
-  pub closed : FilesAreClosed file files
+pub record IsBegunFresh {D : Type 0} (disk : Ghosts D) (files : FourFiles D) (cells : ℕ)
+    (world : World D) : Type 0 where
+  pub closed : FilesAreClosed disk.content files
   pub ended : world.ended ≡ 0
   pub since : world.since ≡ 0
   pub starting : world.log.starting ≡ true
   pub queue : world.queue ≡ []
-  pub follows : AreSynced file leaves files
-      → Follows file leaves world (replicate cells 0) [] 0
+  pub follows : AreSynced disk files → Follows disk world (replicate cells 0) [] 0

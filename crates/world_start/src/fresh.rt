@@ -29,11 +29,11 @@ pub fn fresh_files<D: Disk>(
     files: FourFiles<D>,
 ) -> Result<FourFiles<D>, (FourFiles<D>, Refusal)>
     requires { (1 ≤ cells) × (cells ≤ CELLS) }
-    ensures made { IsTrue D.honest → IfOk result (AreMade D.content D.may_leave files cells) }
+    ensures made { IsTrue D.honest → IfOk result (AreMade D.Disk files cells) }
     ensures refused { IfErr result (λ refused. (refused.1 ≡ Refusal.NotEmpty)
         ⊎ ((refused.1 ≡ Refusal.NoMemory) ⊎ (refused.1 ≡ Refusal.Device))) }
     ensures left { IsTrue D.honest → IfErr result (λ refused.
-        AreNotMade D.content D.may_leave files cells refused.1 refused.0) }
+        AreNotMade D.Disk files cells refused.1 refused.0) }
     ensures device { IfErr result (λ refused. HasFaulted D.faults files refused.0 refused.1) }
     ensures no_fault { IfOk result (λ made. fault_counts D.faults made
         ≡ fault_counts D.faults files) }
@@ -60,10 +60,10 @@ fn begin_fresh<C: Capture, D: Disk>(
 ) -> Result<Engine<C, D>, (FourFiles<D>, Refusal)>
     requires { (1 ≤ cells) × (cells ≤ CELLS) }
     ensures begun { IsTrue D.honest → IfOk result (
-        IsBegunFresh D.content D.may_leave files cells) }
+        IsBegunFresh D.Disk files cells) }
     ensures idle { IfOk result (λ world. world.running ≡ []) }
     ensures kept { IsTrue D.honest → IfErr result (λ refused.
-        EachFile files refused.0 (KeepsFile D.content D.may_leave)) }
+        EachFile files refused.0 (KeepsFile D.Disk)) }
     ensures refused { IfErr result (λ refused. (refused.1 ≡ Refusal.NotEmpty)
         ⊎ ((refused.1 ≡ Refusal.NoMemory) ⊎ (refused.1 ≡ Refusal.Device))) }
     ensures not_empty { IsTrue D.honest → IfErr result (λ refused.
@@ -91,7 +91,7 @@ fn empty_world<D: Disk>(
     files: &mut FourFiles<D>,
 ) -> Result<(Vec<u64>, FourFiles<bool>), Refusal>
     ensures kept { IsTrue D.honest
-        → EachFile files.old files.new (KeepsFile D.content D.may_leave) }
+        → EachFile files.old files.new (KeepsFile D.Disk) }
     ensures words { IfOk result (λ made. made.0.items ≡ replicate cells 0) }
     ensures gates { IsTrue D.honest → IfOk result (λ made. AreGates D.content files.new made.1) }
     ensures closed { IsTrue D.honest → OnOk result (FilesAreClosed D.content files.old) }

@@ -25,13 +25,13 @@ pub struct Reading {
 /// Reads the files and recovers their world. They are only read.
 pub fn read_world<D: Disk>(alloc: Global, files: &mut FourFiles<D>) -> Result<Reading, Refusal>
     ensures kept { IsTrue D.honest
-        → EachFile files.old files.new (KeepsFile D.content D.may_leave) }
-    ensures found { IfOk result (λ read. IsFound D.content D.honest files.old read.found) }
+        → EachFile files.old files.new (KeepsFile D.Disk) }
+    ensures found { IfOk result (λ read. IsFound D.Disk files.old read.found) }
     ensures world { IfOk result (λ read. IsWorld read.found.words.items) }
     ensures numbered { IfOk result (λ read. read.found.tick ≤ TICK_MAX) }
     ensures gates { IsTrue D.honest → IfOk result (λ read.
         AreGates D.content files.new read.shut) }
-    ensures refused { IfErr result (IsRefused D.content D.honest files.old) }
+    ensures refused { IfErr result (IsRefused D.Disk files.old) }
     ensures no_fault { IfOk result (λ _.
         fault_counts D.faults files.new ≡ fault_counts D.faults files.old) }
     ensures device { IfErr result (HasFaulted D.faults files.old files.new) }

@@ -30,14 +30,14 @@ pub fn recover_world<C: Capture, D: Disk>(
     files: FourFiles<D>,
 ) -> Result<Start<C, D>, (FourFiles<D>, Refusal)>
     ensures kept { IsTrue D.honest → MatchResult result
-        (λ begun. EachFile files begun.engine.files (KeepsFile D.content D.may_leave))
-        (λ refused. EachFile files refused.0 (KeepsFile D.content D.may_leave)) }
+        (λ begun. EachFile files begun.engine.files (KeepsFile D.Disk))
+        (λ refused. EachFile files refused.0 (KeepsFile D.Disk)) }
     ensures ahead { IfOk result (λ begun. IsAhead begun.engine begun.words.items) }
-    ensures recovered { IfOk result (λ begun. IsRecovered D.content D.honest files
+    ensures recovered { IfOk result (λ begun. IsRecovered D.Disk files
         begun.engine begun.engine.ended begun.from) }
     ensures read { IsTrue D.honest → IfOk result (λ begun.
-        IsRead D.content D.may_leave files begun.engine begun.from) }
-    ensures refused { IfErr result (λ refused. IsRefused D.content D.honest files refused.1) }
+        IsRead D.Disk files begun.engine begun.from) }
+    ensures refused { IfErr result (λ refused. IsRefused D.Disk files refused.1) }
     ensures no_fault { IfOk result (λ begun.
         fault_counts D.faults begun.engine.files ≡ fault_counts D.faults files) }
     ensures device { IfErr result (λ refused. HasFaulted D.faults files refused.0 refused.1) }

@@ -23,7 +23,7 @@ impl Progress {
         requires phase { self.old.phase ≡ Closing }
         requires up { self.old.down ≡ false }
         ensures moved { self.new ≡ after_call self.old (is_err result) }
-        ensures call { CallOnOther D.honest D.content D.may_leave D.faults D.called
+        ensures call { CallOnOther D.Disk
             (Write 0 (CLOSED_GATE ∷ [])) result self.old self.new other.old other.new }
     {
         self.write(other, 0, &[CLOSED_GATE], Phase::ClosingSync)
@@ -41,7 +41,7 @@ impl Progress {
         requires phase { self.old.phase ≡ Header }
         requires up { self.old.down ≡ false }
         ensures moved { self.new ≡ after_call self.old (is_err result) }
-        ensures call { CallOnOther D.honest D.content D.may_leave D.faults D.called
+        ensures call { CallOnOther D.Disk
             (Write BASE_PLACE (header self.old.next_base)) result self.old
             self.new other.old other.new }
         ensures capacity { vec_capacity buffer.old ≤ vec_capacity buffer.new }
@@ -91,8 +91,7 @@ impl Progress {
         requires room { IsTrue D.honest → self.old.other_shut ≡ true
             → 1 ≤ length (D.content other.old) }
         ensures moved { self.new ≡ with_switch self.old tick (is_err result) }
-        ensures call { CallOnOther D.honest D.content D.may_leave D.faults D.called
-            (if self.old.other_shut
+        ensures call { CallOnOther D.Disk (if self.old.other_shut
             then Write BASE_PLACE (header tick) else Write 0 (CLOSED_GATE ∷ []))
             result self.old self.new other.old other.new }
         ensures capacity { vec_capacity buffer.old ≤ vec_capacity buffer.new }

@@ -39,11 +39,10 @@ impl<C: Capture, D: Disk> Engine<C, D> {
         ensures files { result.files ≡ self.files }
         ensures ticks { (result.ended ≡ self.ended) × (result.since ≡ self.since) }
         ensures none_queued { result.log.down ≡ false → self.queue ≡ [] }
-        ensures rest { AreAtRest D.content D.honest result }
+        ensures rest { AreAtRest D.Disk result }
         ensures settled { result.log.down ≡ false → result.images.phase ≡ Idle → result.since ≡ 0
             → (first : List ℕ) (ticks : List (List Action)) (acknowledged : ℕ)
-            → Follows D.content D.may_leave self first ticks acknowledged
-            → AreSettled D.content D.may_leave result first ticks }
+            → Follows D.Disk self first ticks acknowledged → AreSettled D.Disk result first ticks }
     {
         keeper_laws::<D>();
         let Engine {

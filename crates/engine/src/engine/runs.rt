@@ -19,7 +19,7 @@ impl<C: Capture, D: Disk> Engine<C, D> {
     /// Writes the image of the round in work, or the image keeper goes down.
     pub fn write_image(&mut self)
         ensures over { (self.new.images.phase ≡ Idle) ⊎ (self.new.images.phase ≡ Down) }
-        ensures runs { RunsImages D.content D.may_leave D.honest D.faults self.old self.new }
+        ensures runs { RunsImages D.Disk self.old self.new }
     {
         event_laws();
         while self.images_left() > 0 {
@@ -31,7 +31,7 @@ impl<C: Capture, D: Disk> Engine<C, D> {
     pub fn write_log(&mut self)
         ensures rests { (self.new.log.down ≡ true)
             ⊎ (work_of self.new.log self.new.queue ≡ 0) }
-        ensures runs { RunsLog D.content D.may_leave D.honest D.faults self.old self.new }
+        ensures runs { RunsLog D.Disk self.old self.new }
     {
         event_laws();
         keeper_laws::<D>();
@@ -56,11 +56,11 @@ impl<C: Capture, D: Disk> Engine<C, D> {
         ensures live { self.new.content.live ≡ self.old.content.live }
         ensures newest { HasNewest self.old.images → HasNewest self.new.images }
         ensures follows { IsTrue D.honest
-            → StillFollows D.content D.may_leave self.old self.new }
+            → StillFollows D.Disk self.old self.new }
         ensures acknowledges { IsTrue D.honest
             → (first : List ℕ) (ticks : List (List Action)) (acknowledged : ℕ)
-            → Follows D.content D.may_leave self.old first ticks acknowledged
-            → OnOk result (Follows D.content D.may_leave self.new first ticks self.new.ended) }
+            → Follows D.Disk self.old first ticks acknowledged
+            → OnOk result (Follows D.Disk self.new first ticks self.new.ended) }
         ensures refused { IfErr result (λ refusal. refusal ≡ Refusal.Device) }
         ensures device { (self.old.images.phase ≡ Down → ⊥) → self.old.log.down ≡ false
             → OnErr result (SomeGrew (fault_counts D.faults self.old.files)

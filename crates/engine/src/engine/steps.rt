@@ -12,8 +12,7 @@ use image_files::ImageAnswer;
 impl<C: Capture, D: Disk> Engine<C, D> {
     /// Makes a step of the image keeper.
     pub fn step_images(&mut self) -> ImageAnswer
-        ensures steps { TakesImageStep D.content D.may_leave D.honest D.faults D.called
-            self.old result self.new }
+        ensures steps { TakesImageStep D.Disk self.old result self.new }
     {
         self.images.step(
             &mut self.store,
@@ -24,8 +23,7 @@ impl<C: Capture, D: Disk> Engine<C, D> {
 
     /// Makes a step of the log keeper.
     pub fn step_log(&mut self) -> LogAnswer
-        ensures steps { TakesLogStep D.content D.may_leave D.honest D.faults D.called
-            self.old result self.new }
+        ensures steps { TakesLogStep D.Disk self.old result self.new }
     {
         self.log.step(
             &mut self.queue,

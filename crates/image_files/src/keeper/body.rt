@@ -35,8 +35,7 @@ impl ImageKeeper {
         requires gate { IsTrue D.honest → HasShutGate (D.content target.old) }
         ensures ok { OnOk result (self.new ≡ record self.old { phase = Taking }) }
         ensures failed { OnErr result (self.new ≡ record self.old { phase = Down }) }
-        ensures goes_on { GoesOn D.honest D.content D.may_leave self.old
-            self.new target.old target.new }
+        ensures goes_on { GoesOn D.Disk self.old self.new target.old target.new }
         ensures lowers { OnOk result (left_of self.new < left_of self.old) }
         ensures faults { D.faults target.new ≡ counted (D.faults target.old) result }
         ensures called { D.called target.old
@@ -91,8 +90,7 @@ impl ImageKeeper {
             × (length chunk ≡ length self.old.chunk)
             × (IsTrue D.honest → chunk ≡ read_cells self.old (D.content newest.old))) }
         ensures failed { OnErr result (self.new ≡ record self.old { phase = Down }) }
-        ensures goes_on { Reads D.honest D.content D.may_leave self.old
-            self.new newest.old newest.new }
+        ensures goes_on { Reads D.Disk self.old self.new newest.old newest.new }
         ensures lowers { OnOk result (left_of self.new < left_of self.old) }
         ensures faults { D.faults newest.new ≡ counted (D.faults newest.old) result }
         ensures called { D.called newest.old
@@ -118,8 +116,7 @@ impl ImageKeeper {
             → HEADER_BYTES + WORD_BYTES * self.old.written ≤ length (D.content target.old) }
         ensures ok { OnOk result (self.new ≡ with_chunk_written self.old) }
         ensures failed { OnErr result (self.new ≡ record self.old { phase = Down }) }
-        ensures goes_on { GoesOn D.honest D.content D.may_leave self.old
-            self.new target.old target.new }
+        ensures goes_on { GoesOn D.Disk self.old self.new target.old target.new }
         ensures lowers { OnOk result (left_of self.new < left_of self.old) }
         ensures faults { D.faults target.new ≡ counted (D.faults target.old) result }
         ensures called { D.called target.old
@@ -165,7 +162,7 @@ fn read_front<D: Disk>(
     requires inside { IsTrue D.honest → at + count ≤ length (D.content disk.old) }
     ensures read { IsTrue D.honest
         → OnOk result (take count buffer.new ≡ take count (drop at (D.content disk.old))) }
-    ensures stays { IsOnlyRead D.honest D.content D.may_leave disk.old disk.new }
+    ensures stays { IsOnlyRead D.Disk disk.old disk.new }
     ensures faults { D.faults disk.new ≡ counted (D.faults disk.old) result }
     ensures called { D.called disk.old (Read at count) (is_ok result) disk.new }
 {

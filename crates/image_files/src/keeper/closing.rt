@@ -17,8 +17,7 @@ impl ImageKeeper {
         ensures ok { OnOk result
             (self.new ≡ record self.old { phase = Header; target_shut = true }) }
         ensures failed { OnErr result (self.new ≡ record self.old { phase = Down }) }
-        ensures goes_on { GoesOn D.honest D.content D.may_leave self.old
-            self.new target.old target.new }
+        ensures goes_on { GoesOn D.Disk self.old self.new target.old target.new }
         ensures lowers { OnOk result (left_of self.new < left_of self.old) }
         ensures faults { D.faults target.new ≡ counted (D.faults target.old) result }
         ensures called { D.called target.old Sync (is_ok result) target.new }

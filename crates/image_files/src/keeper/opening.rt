@@ -18,9 +18,9 @@ impl ImageKeeper {
         ensures ok { OnOk result (self.new ≡ opened_keeper self.old) }
         ensures failed { OnErr result (self.new ≡ record self.old { phase = Down }) }
         ensures opened { IfOk result
-            (Opens D.honest D.content D.may_leave self.old self.new target.old target.new) }
+            (Opens D.Disk self.old self.new target.old target.new) }
         ensures goes_on { OnErr result
-            (GoesOn D.honest D.content D.may_leave self.old self.new target.old target.new) }
+            (GoesOn D.Disk self.old self.new target.old target.new) }
         ensures lowers { OnOk result (left_of self.new < left_of self.old) }
         ensures faults { D.faults target.new ≡ counted (D.faults target.old) result }
         ensures called { D.called target.old Sync (is_ok result) target.new }

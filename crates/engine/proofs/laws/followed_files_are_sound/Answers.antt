@@ -3,8 +3,8 @@ use Rattle.engine.proofs.laws.followed_files_are_sound.Goals as goal
 
 pub returns-clause-begun : goal.returns-clause-begun
 returns-clause-begun g c = λ world first ticks acknowledged has follows.
-    follows_sound g.D.Disk.content g.D.Disk.may_leave c.keeper_laws.ensures world first ticks acknowledged follows has
+    follows_sound g.D.Disk c.keeper_laws.ensures world first ticks acknowledged follows has
 
 pub returns-clause-started : goal.returns-clause-started
 returns-clause-started g c = λ world first ticks acknowledged over follows.
-    started_sound g.D.Disk.content g.D.Disk.may_leave c.keeper_laws.ensures world first ticks acknowledged follows over
+    started_sound g.D.Disk c.keeper_laws.ensures world first ticks acknowledged follows over

@@ -16,7 +16,7 @@ invariant-loop-bytes g l = record {
   least : (l.end ≡ l.most) ⊎ (PIECE_BYTES ≤ l.end);
   all : IsTrue g.D.Disk.honest → l.most ≡ min (length (g.D.Disk.content l.fn.disk)) SEGMENT_BYTES_MAX;
   first : IsTrue g.D.Disk.honest → l.bytes.items ≡ take (length l.bytes.items) (g.D.Disk.content l.fn.disk);
-  kept : IsTrue g.D.Disk.honest → KeepsFile g.D.Disk.content g.D.Disk.may_leave l.fn.disk l.disk;
+  kept : IsTrue g.D.Disk.honest → KeepsFile g.D.Disk l.fn.disk l.disk;
   faults : g.D.Disk.faults l.disk ≡ g.D.Disk.faults l.fn.disk;
   asked : OnlyAsked g.D.Disk.called (length l.bytes.items) l.fn.disk l.disk;
   pieces : ((l.end ≤ PIECE_BYTES) × (l.known ≡ None)) ⊎ ((l.end ≤ furthest_piece (length l.bytes.items))

@@ -8,9 +8,7 @@ use Rattle.serial_world.proofs.created.create_and_open.Goals as goal
 pub returns-clause-served : goal.returns-clause-served
 returns-clause-served g c = λ honest synced.
     IfOk-weaker c.open.result _ _
-    (λ served opened. served_fresh g.D.Disk.content g.D.Disk.may_leave g.D.Disk.honest c.args.files
-    c.in_ok-files.files c.args.cells served (c.in_ok-files.ensures.made honest) synced opened)
-    (c.open.ensures.opened honest)
+    (λ served opened. served_fresh g.D.Disk c.args.files c.in_ok-files.files c.args.cells served (c.in_ok-files.ensures.made honest) synced opened) (c.open.ensures.opened honest)
 
 pub returns-in_err-files-clause-left : goal.returns-in_err-files-clause-left
 returns-in_err-files-clause-left g c = λ honest.
@@ -23,7 +21,7 @@ returns-in_err-files-clause-left g c = λ honest.
 pub returns-clause-refused : goal.returns-clause-refused
 returns-clause-refused g c =
     IfErr-weaker c.open.result _ _
-    (λ refused is. new_refused g.D.Disk.content g.D.Disk.may_leave g.D.Disk.honest c.segments_read_once.ensures.once
+    (λ refused is. new_refused g.D.Disk c.segments_read_once.ensures.once
     (λ honest disk. g.met.D.Disk.stays disk honest) c.args.files c.in_ok-files.files c.args.cells c.in_ok-files.ensures.made refused.1 is)
     c.open.ensures.refused
 

@@ -43,6 +43,6 @@ returns-in-Err-clause-left g c = λ honest.
     let D = g.D.Disk in
     let begun = c.in_ok-engine.ensures.begun honest in
     let zeros = replicate c.args.cells 0 in
-    subst (λ (files : FourFiles g.row.D.Denot). AreNotMade D.content D.may_leave c.args.files c.args.cells c.in-Err.refusal files) (sym c.into_files-in-Err.ensures)
-    (start_failed D.content D.may_leave c.keeper_laws.ensures c.args.files c.args.cells c.start.new.self c.in-Err.refusal c.in-Err.ensures.refused
+    subst (λ (files : FourFiles g.row.D.Denot). AreNotMade D c.args.files c.args.cells c.in-Err.refusal files) (sym c.into_files-in-Err.ensures)
+    (start_failed D c.keeper_laws.ensures c.args.files c.args.cells c.start.new.self c.in-Err.refusal c.in-Err.ensures.refused
     (λ synced. c.start.ensures.follows honest zeros [] 0 (begun.follows synced)))

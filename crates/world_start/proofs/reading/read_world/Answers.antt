@@ -17,10 +17,9 @@ pub returns-in_err-found-clause-refused : goal.returns-in_err-found-clause-refus
 returns-in_err-found-clause-refused g c =
     let bytes = c.in_ok-bytes.bytes in
     let refusal = c.in_err-found.field-0.0 in
-    if_err c.from_residual-in_err-found.result refusal (IsRefused g.D.Disk.content g.D.Disk.honest c.args.files.now) c.from_residual-in_err-found.ensures.1
-    (elim c.in_err-found.ensures.refused [
+    if_err c.from_residual-in_err-found.result refusal (IsRefused g.D.Disk c.args.files.now) c.from_residual-in_err-found.ensures.1 (elim c.in_err-found.ensures.refused [
       | inl none ↦ inl none
-      | inr refused ↦ inr (inr (chosen g.D.Disk.content g.D.Disk.honest c.args.files.now (Err refusal) bytes.image_a.items bytes.image_b.items bytes.log_a.items bytes.log_b.items
+      | inr refused ↦ inr (inr (chosen g.D.Disk c.args.files.now (Err refusal) bytes.image_a.items bytes.image_b.items bytes.log_a.items bytes.log_b.items
           (recovers_on (Err refusal) c.deref.ensures.value c.deref-2.ensures.value c.deref-3.ensures.value c.deref-4.ensures.value refused) c.in_ok-bytes.ensures.read))
     ])
 
@@ -37,7 +36,7 @@ pub returns-clause-found : goal.returns-clause-found
 returns-clause-found g c =
     let found = c.in_ok-found.found in
     let bytes = c.in_ok-bytes.bytes in
-    chosen g.D.Disk.content g.D.Disk.honest c.args.files.now (Ok (recovery_of_answer found)) bytes.image_a.items bytes.image_b.items bytes.log_a.items bytes.log_b.items
+    chosen g.D.Disk c.args.files.now (Ok (recovery_of_answer found)) bytes.image_a.items bytes.image_b.items bytes.log_a.items bytes.log_b.items
     (recovers_on (Ok (recovery_of_answer found)) c.deref.ensures.value c.deref-2.ensures.value c.deref-3.ensures.value
     c.deref-4.ensures.value c.in_ok-found.ensures.recovered) c.in_ok-bytes.ensures.read
 

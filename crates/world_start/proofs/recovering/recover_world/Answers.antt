@@ -36,7 +36,7 @@ returns-in_ok-engine-in-Ok-clause-read g c = λ honest.
     let found = c.in-Ok.field-0.found in
     let read = c.in-Ok.ensures in
     let world = c.in_ok-engine-in-Ok.engine in
-    is_read D.content D.may_leave c.event_laws.ensures c.keeper_laws.ensures c.segments_read_once.ensures.once c.crash_restarts.ensures (λ disk. g.met.D.Disk.stays disk honest)
+    is_read D c.event_laws.ensures c.keeper_laws.ensures c.segments_read_once.ensures.once c.crash_restarts.ensures (λ disk. g.met.D.Disk.stays disk honest)
     c.args.files c.read_world.new.files (read.kept honest) (recovery_of_answer found) c.in-Ok.field-0.shut world read.world read.numbered
-    (found_recovers D.content D.honest c.args.files found read.found honest) (read.gates honest)
+    (found_recovers D c.args.files found read.found honest) (read.gates honest)
     (subst (λ words. Begins (Some (found.slot, found.from)) found.tick words c.in-Ok.field-0.shut c.read_world.new.files world) c.deref.ensures.value c.in_ok-engine-in-Ok.ensures.begins)

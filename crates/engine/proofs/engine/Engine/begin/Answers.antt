@@ -11,7 +11,7 @@ invariant_of-result g c =
     let shut = c.args.shut in
     let cells = length c.args.words.now in (
       made.ring,
-      begins_in_order D.content D.honest (record { images = c.images_stay.ensures.fits; log = c.log_outcomes.ensures.made; queue = c.log_queues.ensures.begins })
+      begins_in_order D (record { images = c.images_stay.ensures.fits; log = c.log_outcomes.ensures.made; queue = c.log_queues.ensures.begins })
           c.args.newest c.args.tick c.args.words.now shut c.args.files _ c.requires.some c.requires.few c.requires.numbered c.requires.gates c.requires.newest
           (record {
             store = subst (λ (round : Bool). IsBuilt c.args.words.now round (g.C.Capture.content c.in-Ok.field-0.store)) c.has_round-round.ensures made.store;

@@ -35,12 +35,12 @@ returns-clause-settled g c = λ up idle none first ticks acknowledged follows.
     let was = c.self.inside in
     let rest = subst IsAtRest (sym c.self.view_is) c.requires.rest in
     let order = c.self.invariant.1 in
-    let f = subst (λ w. Follows D.content D.may_leave w first ticks acknowledged) (sym c.self.view_is) follows in
+    let f = subst (λ w. Follows D w first ticks acknowledged) (sym c.self.view_is) follows in
     let rests = no_work was.log was.queue.items rest.rests up in
     let waits = none_waits was.log was.queue.items rests in
     let ready = log_is_ready was.log was.queue.items was.ended was.since rest.rests order.queue_end order.within up in
     let base : was.log.base ≡ was.ended = (let all = ready.all in omega (arith, all, none)) in
-    let s = settles D.content D.may_leave c.keeper_laws.ensures _ first ticks acknowledged f rest.started rest.running idle ready.ready waits.1 base in
+    let s = settles D c.keeper_laws.ensures _ first ticks acknowledged f rest.started rest.running idle ready.ready waits.1 base in
     record {
       cells = f.cells;
       images = s.images;

@@ -47,6 +47,6 @@ pub returns-clause-acknowledges : goal.returns-clause-acknowledges
 returns-clause-acknowledges g c = λ honest first ticks acknowledged f.
     let last = c.write_log.new.self in
     let idle = not_down c.write_image.new.self.images.phase c.write_image.ensures.over (λ down. let e = c.if-images_are_down.ensures.down.1 down in absurd (let h = e in cc)) in
-    all_follow g.D.Disk.content g.D.Disk.may_leave c.event_laws.ensures c.keeper_laws.ensures last first ticks acknowledged
+    all_follow g.D.Disk c.event_laws.ensures c.keeper_laws.ensures last first ticks acknowledged
     (sym c.if-is_starting.ensures.starting) (no_work last.log last.queue c.write_log.ensures.rests (sym c.if-log_is_down.ensures))
     (c.write_log.ensures.runs.follows honest (inr idle) first ticks acknowledged (c.write_image.ensures.runs.follows honest first ticks acknowledged f))

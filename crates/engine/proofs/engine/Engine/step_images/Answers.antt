@@ -34,7 +34,7 @@ returns g c =
     let took = g.C.Taker.took in
     let after_take = g.met.C.Capture.after_take in
     record {
-      steps = image_step_at D.content D.may_leave D.honest D.faults D.called _ c.args.self.now c.step.result _ c.self.view_is (record {
+      steps = image_step_at D _ c.args.self.now c.step.result _ c.self.view_is (record {
         rest = refl;
         stands = λ sure images has.
             (let next = e.stands sure images has in

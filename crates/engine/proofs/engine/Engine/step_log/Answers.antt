@@ -7,7 +7,7 @@ returns g c =
     let D = g.D.Disk in
     let e = c.step.ensures in
     record {
-      steps = log_step_at D.content D.may_leave D.honest D.faults D.called _ c.args.self.now c.step.result _ c.self.view_is (record {
+      steps = log_step_at D _ c.args.self.now c.step.result _ c.self.view_is (record {
         rest = refl;
         front = e.front;
         stands = e.journal;

@@ -4,7 +4,7 @@ use Rattle.engine.proofs.engine.Engine.write_image.Given as goal
 
 -- the image keeper made steps
 abbrev pub invariant-loop-self : goal.invariant-loop-self
-invariant-loop-self g l = RunsImages g.D.Disk.content g.D.Disk.may_leave g.D.Disk.honest g.D.Disk.faults l.fn.self l.self
+invariant-loop-self g l = RunsImages g.D.Disk l.fn.self l.self
 
 abbrev pub decreases-loop-self : goal.decreases-loop-self
 decreases-loop-self g l = left_of l.self.images

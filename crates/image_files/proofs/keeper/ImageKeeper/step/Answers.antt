@@ -59,8 +59,7 @@ returns-in-A-clause-opened g c honest =
 pub returns-in-A-clause-newest : goal.returns-in-A-clause-newest
 returns-in-A-clause-newest g c =
     let D = g.D.Disk in
-    subst (λ s. IsOnlyRead D.honest D.content D.may_leave (of_slot s c.args.image_b.now c.args.image_a.now)
-    (of_slot s c.step_by_phase.new.newest c.step_by_phase.new.target)) c.in-A.ensures c.step_by_phase.ensures.newest
+    subst (λ s. IsOnlyRead D (of_slot s c.args.image_b.now c.args.image_a.now) (of_slot s c.step_by_phase.new.newest c.step_by_phase.new.target)) c.in-A.ensures c.step_by_phase.ensures.newest
 
 pub returns-in-B-clause-took : goal.returns-in-B-clause-took
 returns-in-B-clause-took g c phase =
@@ -95,5 +94,4 @@ returns-in-B-clause-newest g c =
     let D = g.D.Disk in
     subst
     (λ s.
-    IsOnlyRead D.honest D.content D.may_leave (of_slot s c.args.image_b.now c.args.image_a.now)
-    (of_slot s c.step_by_phase-in-B.new.target c.step_by_phase-in-B.new.newest)) c.in-B.ensures c.step_by_phase-in-B.ensures.newest
+    IsOnlyRead D (of_slot s c.args.image_b.now c.args.image_a.now) (of_slot s c.step_by_phase-in-B.new.target c.step_by_phase-in-B.new.newest)) c.in-B.ensures c.step_by_phase-in-B.ensures.newest

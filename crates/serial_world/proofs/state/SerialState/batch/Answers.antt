@@ -19,7 +19,7 @@ pub returns-then-log_is_down-clause-refused : goal.returns-then-log_is_down-clau
 returns-then-log_is_down-clause-refused g c =
     let D = g.D.Disk in
     let old = c.args.self.now in
-    let l = logged_from D.content D.may_leave D.honest D.faults c.event_laws.ensures old.engine c.play.new.self c.end-self.new.self c.write_log.new.self
+    let l = logged_from D c.event_laws.ensures old.engine c.play.new.self c.end-self.new.self c.write_log.new.self
     (accepted_of c.args.b.now.list old.engine.content.live) c.requires c.in_ok-play.ensures.does c.end-self.ensures.ended c.write_log.ensures.runs c.write_log.ensures.rests in
     inr (record {
       plays = record {
@@ -42,17 +42,15 @@ returns-clause-acknowledged g c =
     let logged = c.write_log.new.self in
     let actions = accepted_of c.args.b.now.list old.engine.content.live in
     let due = c.checkpoint_if_due.ensures in
-    let l = logged_from D.content D.may_leave D.honest D.faults c.event_laws.ensures old.engine c.play.new.self c.end-self.new.self logged actions c.requires
+    let l = logged_from D c.event_laws.ensures old.engine c.play.new.self c.end-self.new.self logged actions c.requires
     c.in_ok-play.ensures.does c.end-self.ensures.ended c.write_log.ensures.runs c.write_log.ensures.rests in
     let rests = no_work logged.log logged.queue l.rest.rests (sym c.if-log_is_down.ensures) in
     let mid : SerialState g.row.C.Denot g.row.D.Denot = record { engine = logged; every = old.every; acked = c.ended-self.result; recovered = old.recovered } in
-    let serves : (honest : IsTrue D.honest) (first : List ℕ) (ticks : List (List Action)) → Serves D.content D.may_leave D.honest old first ticks
-    → Serves D.content D.may_leave D.honest mid first (ticks ++ actions ∷ []) = λ honest first ticks f. record {
+    let serves : (honest : IsTrue D.honest) (first : List ℕ) (ticks : List (List Action)) → Serves D old first ticks → Serves D mid first (ticks ++ actions ∷ []) = λ honest first ticks f. record {
       started = l.rest.started;
       running = l.rest.running;
-      follows = subst (Follows D.content D.may_leave logged first (ticks ++ actions ∷ [])) (sym c.ended-self.ensures)
-          (all_follow D.content D.may_leave c.event_laws.ensures c.keeper_laws.ensures logged first (ticks ++ actions ∷ []) old.acked l.rest.started rests
-          (l.follows honest first ticks old.acked f.follows));
+      follows = subst (Follows D logged first (ticks ++ actions ∷ [])) (sym c.ended-self.ensures)
+          (all_follow D c.event_laws.ensures c.keeper_laws.ensures logged first (ticks ++ actions ∷ []) old.acked l.rest.started rests (l.follows honest first ticks old.acked f.follows));
     } in
     record {
       plays = record {

@@ -27,7 +27,7 @@ returns-in-Ok-clause-opened g c = λ honest.
           record {
             started = rest.started;
             running = rest.running;
-            follows = subst (Follows D.content D.may_leave last first (take read.recovery.tick ticks)) (sym acked) (start.follows honest first (take read.recovery.tick ticks) read.recovery.tick f.1);
+            follows = subst (Follows D last first (take read.recovery.tick ticks)) (sym acked) (start.follows honest first (take read.recovery.tick ticks) read.recovery.tick f.1);
           };
     }
 
@@ -50,7 +50,7 @@ returns-in-Err-clause-left g c = λ honest.
     let last = c.start.new.self in
     let read = c.in_ok-engine.ensures.read honest in
     let tick = read.recovery.tick in
-    subst (λ (left : FourFiles g.row.D.Denot). IsNotOpened D.content leaves c.args.files c.in-Err.refusal left) (sym c.into_files.ensures) (record {
+    subst (λ (left : FourFiles g.row.D.Denot). IsNotOpened D c.args.files c.in-Err.refusal left) (sym c.into_files.ensures) (record {
       kept = λ other. absurd (other c.in-Err.ensures.refused);
       sound = λ first ticks acknowledged synced sound.
           let f = read.follows first ticks acknowledged (record { synced = synced; world = inl sound }) in

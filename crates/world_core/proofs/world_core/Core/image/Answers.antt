@@ -3,13 +3,13 @@ use Rattle.disk_model.specs.FileState.{Calls}
 use Rattle.disk_model.specs.Fused.{CallsThrough}
 use Rattle.engine.specs.Fuses.{images_armed}
 use Rattle.engine.specs.Steps.{TakesImageStep}
-use Rattle.world_core.specs.State.{State, content_of, leaves_of, failures}
+use Rattle.world_core.specs.State.{State, core_disk}
 use Rattle.world_core.specs.Facts.{IsCoreAt}
 use Rattle.world_core.proofs.Imaging.{image_keeps, image_progress, image_exact}
 use Rattle.world_core.proofs.world_core.Core.image.Goals as goal
 
 pub returns-clause-does : goal.returns-clause-does
-returns-clause-does g c = subst (λ (s : State). TakesImageStep content_of leaves_of true failures (CallsThrough Calls) s c.step_images-given.result c.step_images-given.new.self)
+returns-clause-does g c = subst (λ (s : State). TakesImageStep core_disk s c.step_images-given.result c.step_images-given.new.self)
     (c.arm_images.ensures ∙ (λ i. images_armed (c.is_failed.ensures i) (c.self.view_is i))) c.step_images-given.ensures.steps
 
 pub returns-clause-keeps : goal.returns-clause-keeps

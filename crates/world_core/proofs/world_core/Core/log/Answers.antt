@@ -3,7 +3,7 @@ use Rattle.disk_model.specs.FileState.{Calls}
 use Rattle.disk_model.specs.Fused.{CallsThrough}
 use Rattle.engine.specs.Fuses.{log_armed}
 use Rattle.engine.specs.Steps.{TakesLogStep}
-use Rattle.world_core.specs.State.{State, content_of, leaves_of, failures}
+use Rattle.world_core.specs.State.{State, core_disk}
 use Rattle.world_core.specs.Moving.{StepsLogBy}
 use Rattle.world_core.specs.Facts.{IsCoreAt}
 use Rattle.world_core.proofs.Exact.{no_wait, waiting_is}
@@ -12,7 +12,7 @@ use Rattle.world_core.proofs.LogExact.{log_progress, log_exact}
 use Rattle.world_core.proofs.world_core.Core.log.Goals as goal
 
 stepped : (g : _) (c : goal.After-in_order g) → StepsLogBy c.args.fate c.args.self.now c.step_log-given.result c.step_log-given.new.self
-stepped g c = subst (λ (s : State). TakesLogStep content_of leaves_of true failures (CallsThrough Calls) s c.step_log-given.result c.step_log-given.new.self)
+stepped g c = subst (λ (s : State). TakesLogStep core_disk s c.step_log-given.result c.step_log-given.new.self)
     (c.arm_log.ensures ∙ (λ i. log_armed (c.is_failed.ensures i) (c.self.view_is i))) c.step_log-given.ensures.steps
 
 pub returns-clause-keeps : goal.returns-clause-keeps
