@@ -322,78 +322,36 @@ queued_by past state first count (Newest images) (InStart start) left h has some
 queued_by past state first count (NoneYet images) (Writing logs) left h has some = absurd h
 queued_by past state first count (Newest images) (Writing logs) left h has some = has.0.over
 
+-- a queued record comes after the start, so both logs are written
 tick_written : (past next : Past) (old new : State) → IsCoreAt next new → EndsTick old new → AreWritten past old → AreWritten next new
 tick_written past next old new c e w =
     let queued : length new.queue ≡ length old.queue + 1 = ap (λ (s : State). length s.queue) e.2 ∙ length-append old.queue (records.Tick e.0 ∷ []) in
     let over : new.log.starting ≡ false = queued_by next new (replicate c.size 0) c.follows.count c.images c.place.journal c.place.left c.follows.in_step.phase c.has_log
     (let some : 0 < length new.queue = omega (arith, queued) in some) in
     let both = w.started (ap (λ (s : State). s.log.starting) (sym e.2) ∙ over) in
-    let logs : IsWritten 10 new.files.log_a.inner × IsWritten 1 new.files.log_b.inner =
-    (subst (λ (s : State). IsWritten 10 s.files.log_a.inner) (sym e.2) both.0, subst (λ (s : State). IsWritten 1 s.files.log_b.inner) (sym e.2) both.1) in
-    record {
-      started = λ is. logs;
-      ticked = λ some. logs;
-      imaged = λ after_first. (
-          let images = w.imaged (subst (λ (s : State). 0 < newest_tick s.images.newest) e.2 after_first) in
-          (subst (λ (s : State). IsWritten 17 s.files.image_a.inner) (sym e.2) images.0, subst (λ (s : State). IsWritten 17 s.files.image_b.inner) (sym e.2) images.1));
-    }
+    subst (AreWritten next) (sym e.2) (record { started = λ is. both; ticked = λ some. both; imaged = w.imaged })
 
--- ---- the other moves
+-- ---- the moves of the keepers
 
--- the same files, keepers and ticks
-still_written : (past next : Past) (old new : State) → next.history.ticks ≡ past.history.ticks → new.log ≡ old.log → new.images.newest ≡ old.images.newest
-    → new.files.log_a ≡ old.files.log_a → new.files.log_b ≡ old.files.log_b → new.files.image_a ≡ old.files.image_a → new.files.image_b ≡ old.files.image_b → AreWritten past old → AreWritten next new
-still_written past next old new ticks log newest log_a log_b image_a image_b w = record {
-  started = λ is. (let both = w.started (ap (λ (k : LogProgress). k.starting) (sym log) ∙ is) in (
-    same_keeps old.files.log_a new.files.log_a log_a 10 both.0,
-    same_keeps old.files.log_b
-        new.files.log_b log_b 1 both.1,
-  ));
-  ticked = λ some. (let two = w.ticked (subst (λ (t : List (List Action)). 0 < length t) ticks some) in
-      (same_keeps old.files.log_a new.files.log_a log_a 10 two.0, same_keeps old.files.log_b new.files.log_b log_b 1 two.1));
-  imaged =
-      λ after_first.
-      (let both = w.imaged (subst (λ n. 0 < newest_tick n) newest after_first) in (
-        same_keeps old.files.image_a new.files.image_a image_a 17 both.0,
-        same_keeps old.files.image_b
-            new.files.image_b image_b 17 both.1,
-      ));
-}
-
-same_written : (past next : Past) (old new : State) → next.history.ticks ≡ past.history.ticks → new ≡ old → AreWritten past old → AreWritten next new
-same_written past next old new ticks is w =
-    still_written past next old new ticks (ap (λ (s : State). s.log) is) (ap (λ (s : State). s.images.newest) is) (ap (λ (s : State). s.files.log_a) is) (ap (λ (s : State). s.files.log_b) is)
-    (ap (λ (s : State). s.files.image_a) is) (ap (λ (s : State). s.files.image_b) is) w
-
-image_written : KeeperLaws → (past next : Past) (fate : Fate) (old : State) (given : ImageAnswer) (new : State)
-    → next.history.ticks ≡ past.history.ticks → IsCoreAt past old → StepsImagesBy fate old given new
-    → AreWritten past old → AreWritten next new
-image_written keepers past next fate old given new ticks c s w =
-    let log_a = same_keeps old.files.log_a new.files.log_a (ap (λ (s : State). s.files.log_a) s.rest) in
-    let log_b = same_keeps old.files.log_b new.files.log_b (ap (λ (s : State). s.files.log_b) s.rest) in
-    record {
-      started = λ is. (let both = w.started (ap (λ (s : State). s.log.starting) (sym s.rest) ∙ is) in (log_a 10 both.0, log_b 1 both.1));
-      ticked = λ some. (let both = w.ticked (subst (λ (t : List (List Action)). 0 < length t) ticks some) in (log_a 10 both.0, log_b 1 both.1));
-      imaged = image_step_written keepers past fate old given new c s w;
-    }
+image_written : KeeperLaws → (past : Past) (fate : Fate) (old : State) (given : ImageAnswer) (new : State)
+    → IsCoreAt past old → StepsImagesBy fate old given new → AreWritten past old → AreWritten past new
+image_written keepers past fate old given new c s w =
+    subst (AreWritten past) (sym s.rest) (record { started = w.started; ticked = w.ticked; imaged = image_step_written keepers past fate old given new c s w })
 
 log_started : KeeperLaws → (past : Past) (fate : Fate) (old : State) (given : LogAnswer) (new : State) → IsCoreAt past old → StepsLogBy fate old given new → AreWritten past old
     → (was : Bool) → old.log.starting ≡ was → new.log.starting ≡ false → IsWritten 10 new.files.log_a.inner × IsWritten 1 new.files.log_b.inner
 log_started keepers past fate old given new c s w true was is = log_ends keepers fate old new c.place given c.has_log s was is
 log_started keepers past fate old given new c s w false was is = (let both = w.started was in let keeps = log_step_keeps fate old given new s in (keeps.0 10 both.0, keeps.1 1 both.1))
 
-log_written : KeeperLaws → (past next : Past) (fate : Fate) (old : State) (given : LogAnswer) (new : State)
-    → next.history.ticks ≡ past.history.ticks → IsCoreAt past old → StepsLogBy fate old given new
-    → AreWritten past old → AreWritten next new
-log_written keepers past next fate old given new ticks c s w =
+log_written : KeeperLaws → (past : Past) (fate : Fate) (old : State) (given : LogAnswer) (new : State)
+    → IsCoreAt past old → StepsLogBy fate old given new → AreWritten past old → AreWritten past new
+log_written keepers past fate old given new c s w =
     let keeps = log_step_keeps fate old given new s in
-    let image_a = same_keeps old.files.image_a new.files.image_a (ap (λ (s : State). s.files.image_a) s.rest) in
-    let image_b = same_keeps old.files.image_b new.files.image_b (ap (λ (s : State). s.files.image_b) s.rest) in
-    record {
+    subst (AreWritten past) (sym s.rest) (record {
       started = log_started keepers past fate old given new c s w old.log.starting refl;
-      ticked = λ some. (let both = w.ticked (subst (λ (t : List (List Action)). 0 < length t) ticks some) in (keeps.0 10 both.0, keeps.1 1 both.1));
-      imaged = λ after_first. (let both = w.imaged (subst (λ (s : State). 0 < newest_tick s.images.newest) s.rest after_first) in (image_a 17 both.0, image_b 17 both.1));
-    }
+      ticked = λ some. (let both = w.ticked some in (keeps.0 10 both.0, keeps.1 1 both.1));
+      imaged = w.imaged;
+    })
 
 -- ---- a crash
 
@@ -482,37 +440,33 @@ module _ (keepers : KeeperLaws) (safety : SafetyLaws) (past : Past) (old : State
       begun_written (Some (r.slot, r.from)) r.tick r.words ia ib la lb next new s.5
       (λ some. none.0 (let t : 0 < r.tick = omega (arith, some, ap (λ (t : List (List Action)). length t) ticks, length-take tick past.history.ticks, s.2) in t)) none.1
 
+  -- the same files, keepers and ticks
+  same : {like : State} (new : State) → new ≡ like → AreWritten past like → AreWritten past new
+  same new is written = subst (AreWritten past) (sym is) written
+
   moves_keep : (asked : Move) (given : Answer) (new : State) → IsCoreAt (past_after past asked given) new → Answers past old asked given new → AreWritten (past_after past asked given) new
-  moves_keep (move.Act action) answer.Did new k a =
-      still_written past (past_after past (move.Act action) answer.Did) old new refl (ap (λ (s : State). s.log) a.does.rest) (ap (λ (s : State). s.images.newest) a.does.rest)
-      (ap (λ (s : State). s.files.log_a) a.does.rest) (ap (λ (s : State). s.files.log_b) a.does.rest) (ap (λ (s : State). s.files.image_a) a.does.rest)
-      (ap (λ (s : State). s.files.image_b) a.does.rest) w
-  moves_keep (move.Act action) given new k a = same_written past (past_after past (move.Act action) given) old new refl a.does w
-  moves_keep (move.Get cell) given new k a = same_written past (past_after past (move.Get cell) given) old new refl a.does w
+  moves_keep (move.Act action) answer.Did new k a = same new a.does.rest w
+  moves_keep (move.Act action) given new k a = same new a.does w
+  moves_keep (move.Get cell) given new k a = same new a.does w
   moves_keep move.End (answer.Ended tick) new k a = tick_written past (past_after past move.End (answer.Ended tick)) old new k a.does w
-  moves_keep move.End given new k a = same_written past (past_after past move.End given) old new refl a.does w
-  moves_keep move.Mark (answer.Started tick) new k a =
-      still_written past (past_after past move.Mark (answer.Started tick)) old new refl (ap (λ (s : State). s.log) a.does.1) (ap (λ (s : State). s.images.newest) a.does.1)
-      (ap (λ (s : State). s.files.log_a) a.does.1) (ap (λ (s : State). s.files.log_b) a.does.1) (ap (λ (s : State). s.files.image_a) a.does.1) (ap (λ (s : State). s.files.image_b) a.does.1) w
-  moves_keep move.Mark given new k a = same_written past (past_after past move.Mark given) old new refl a.does w
-  moves_keep (move.Image fate) (answer.Image given) new k a = image_written keepers past (past_after past (move.Image fate) (answer.Image given)) fate old given new refl c a.does w
-  moves_keep (move.Image fate) given new k a = same_written past (past_after past (move.Image fate) given) old new refl a.does w
+  moves_keep move.End given new k a = same new a.does w
+  moves_keep move.Mark (answer.Started tick) new k a = same new a.does.1 w
+  moves_keep move.Mark given new k a = same new a.does w
+  moves_keep (move.Image fate) (answer.Image given) new k a = image_written keepers past fate old given new c a.does w
+  moves_keep (move.Image fate) given new k a = same new a.does w
   moves_keep (move.Log fate) (answer.Log given) new k a = elim a.does [
-    | inl waits ↦ same_written past (past_after past (move.Log fate) (answer.Log given)) old new refl waits.2 w
-    | inr step ↦ log_written keepers past (past_after past (move.Log fate) (answer.Log given)) fate old given new refl c step w
+    | inl waits ↦ same new waits.2 w
+    | inr step ↦ log_written keepers past fate old given new c step w
   ]
-  moves_keep (move.Log fate) given new k a = same_written past (past_after past (move.Log fate) given) old new refl a.does w
-  moves_keep (move.Cover tick) (answer.Log given) new k a =
-      still_written past (past_after past (move.Cover tick) (answer.Log given)) old new refl (ap (λ (s : State). s.log) a.does.rest) (ap (λ (s : State). s.images.newest) a.does.rest)
-      (ap (λ (s : State). s.files.log_a) a.does.rest) (ap (λ (s : State). s.files.log_b) a.does.rest) (ap (λ (s : State). s.files.image_a) a.does.rest)
-      (ap (λ (s : State). s.files.image_b) a.does.rest) w
-  moves_keep (move.Cover tick) given new k a = same_written past (past_after past (move.Cover tick) given) old new refl a.does w
+  moves_keep (move.Log fate) given new k a = same new a.does w
+  moves_keep (move.Cover tick) (answer.Log given) new k a = same new a.does.rest w
+  moves_keep (move.Cover tick) given new k a = same new a.does w
   moves_keep (move.Crash left) (answer.Recovered tick from) new k a =
       recovered_written (past_after past (move.Crash left) (answer.Recovered tick from)) tick from left.image_a.items left.image_b.items left.log_a.items left.log_b.items new refl a.exact.0 a.does
   moves_keep (move.Crash left) answer.Blank new k a =
       begun_written None 0 _ left.image_a.items left.image_b.items left.log_a.items left.log_b.items (past_after past (move.Crash left) answer.Blank) new a.does.1
       (λ some. absurd (omega (arith, some))) (λ some. absurd (omega (arith, some)))
-  moves_keep (move.Crash left) given new k a = same_written past (past_after past (move.Crash left) given) old new refl a.does w
+  moves_keep (move.Crash left) given new k a = same new a.does w
 
 pub fresh_written : (cells : ℕ) (state : State) → BeginsFresh cells state → AreWritten fresh_past state
 fresh_written cells state b =

@@ -9,7 +9,7 @@ use Rattle.recovery.specs.Recovery.{Recovery, Recovers}
 use Rattle.world_core.specs.declared.moves.Move.{Move}
 use Rattle.world_core.specs.declared.moves.Answer.{Answer}
 use Rattle.world_core.specs.Past.{Past, past_after, fresh_past}
-use Rattle.world_core.specs.State.{State, files_in}
+use Rattle.world_core.specs.State.{File, State, files_in}
 use Rattle.world_core.specs.Starting.{BeginsFresh}
 use Rattle.world_core.specs.Exact.{MayLeave}
 use Rattle.world_core.specs.Facts.{IsCoreAt}
@@ -31,16 +31,21 @@ NoneIsEmpty files =
 abbrev pub IsWritten : (count : ℕ) → FileState → Type 0
 IsWritten count file = count ≤ length file.durable
 
--- The header of log.a and a byte of log.b are written once the start has ended, and if a tick has
--- ended. The headers of both images are written if the newest one is of a tick above 0.
-pub record AreWritten (past : Past) (state : State) : Type 0 where
-  pub started : state.log.starting ≡ false
-      → IsWritten LOG_HEADER state.files.log_a.inner × IsWritten 1 state.files.log_b.inner
-  pub ticked : 0 < length past.history.ticks
-      → IsWritten LOG_HEADER state.files.log_a.inner × IsWritten 1 state.files.log_b.inner
-  pub imaged : 0 < newest_tick state.images.newest
-      → IsWritten IMAGE_HEADER state.files.image_a.inner
-      × IsWritten IMAGE_HEADER state.files.image_b.inner
+-- Of files of a core after so many ticks: the header of log.a and a byte of log.b are written once
+-- the start has ended, and if a tick has ended. The headers of both images are written if the newest
+-- one is of a tick above 0.
+pub record FilesAreWritten (ended : ℕ) (starting : Bool) (newest : ℕ) (files : FourFiles File)
+    : Type 0 where
+  pub started : starting ≡ false
+      → IsWritten LOG_HEADER files.log_a.inner × IsWritten 1 files.log_b.inner
+  pub ticked : 0 < ended → IsWritten LOG_HEADER files.log_a.inner × IsWritten 1 files.log_b.inner
+  pub imaged : 0 < newest
+      → IsWritten IMAGE_HEADER files.image_a.inner × IsWritten IMAGE_HEADER files.image_b.inner
+
+abbrev pub AreWritten : Past → State → Type 0
+AreWritten past state =
+    FilesAreWritten (length past.history.ticks) state.log.starting
+    (newest_tick state.images.newest) state.files
 
 -- a fresh core has these facts, each move keeps them, and no crash leaves an empty file of a
 -- core that has them

@@ -41,19 +41,20 @@ shut_same (gate ∷ file) (byte ∷ bytes) front =
 
 -- ---- the four files
 
-module _ {D : Type 0} (file : D → List ℕ) (files : FourFiles D) (ia ib la lb : List ℕ) (read : AreFilesRead file files ia ib la lb) where
-  pub read_recovers : (x : Result Recovery Refusal) → Recovers ia ib la lb x → Recovers (file files.image_a) (file files.image_b) (file files.log_a) (file files.log_b) x
+module _ {D : Type 0} (disk : Ghosts D) (files : FourFiles D) (ia ib la lb : List ℕ) (read : AreFilesRead disk.content files ia ib la lb) where
+  pub read_recovers : (x : Result Recovery Refusal) → Recovers ia ib la lb x
+      → Recovers (disk.content files.image_a) (disk.content files.image_b) (disk.content files.log_a) (disk.content files.log_b) x
   read_recovers x e = record {
     a = e.a;
     b = e.b;
     reads_a = (read.log_a_read.reads e.a).0 e.reads_a;
     reads_b = (read.log_b_read.reads e.b).0 e.reads_b;
     holds =
-        ap (λ (image : Image). recovery_of image (image_of (file files.image_b)) e.a e.b) (sym read.image_a_read.reads) ∙ ap
+        ap (λ (image : Image). recovery_of image (image_of (disk.content files.image_b)) e.a e.b) (sym read.image_a_read.reads) ∙ ap
         (λ (image : Image). recovery_of (image_of ia) image e.a e.b) (sym read.image_b_read.reads) ∙ e.holds;
   }
 
-  pub read_closed : AreClosed ia ib la lb → AreClosed (file files.image_a) (file files.image_b) (file files.log_a) (file files.log_b)
+  pub read_closed : AreClosed ia ib la lb → AreClosed (disk.content files.image_a) (disk.content files.image_b) (disk.content files.log_a) (disk.content files.log_b)
   read_closed closed = record {
     image_a_closed = sym read.image_a_read.reads ∙ closed.image_a_closed;
     image_b_closed = sym read.image_b_read.reads ∙ closed.image_b_closed;
@@ -61,7 +62,7 @@ module _ {D : Type 0} (file : D → List ℕ) (files : FourFiles D) (ia ib la lb
     log_b_closed = (read.log_b_read.reads ClosedSegment).0 closed.log_b_closed;
   }
 
-  pub closed_read : AreClosed (file files.image_a) (file files.image_b) (file files.log_a) (file files.log_b) → AreClosed ia ib la lb
+  pub closed_read : AreClosed (disk.content files.image_a) (disk.content files.image_b) (disk.content files.log_a) (disk.content files.log_b) → AreClosed ia ib la lb
   closed_read closed = record {
     image_a_closed = read.image_a_read.reads ∙ closed.image_a_closed;
     image_b_closed = read.image_b_read.reads ∙ closed.image_b_closed;
@@ -70,13 +71,13 @@ module _ {D : Type 0} (file : D → List ℕ) (files : FourFiles D) (ia ib la lb
   }
 
   -- the flags of the bytes that were read are those of the files
-  pub read_gates : ((bytes : List ℕ) → ReportsShut (is_shut bytes) bytes) → (left : FourFiles D) (leaves : D → List ℕ → Type 0) → EachFile files left (KeepsFile file leaves)
-      → (shut : FourFiles Bool) → shut.image_a ≡ is_shut ia → shut.image_b ≡ is_shut ib → shut.log_a ≡ is_shut la → shut.log_b ≡ is_shut lb → AreGates file left shut
-  read_gates reported left leaves kept shut a b c d = record {
-    image_a = gate (file files.image_a) (file left.image_a) ia shut.image_a a read.image_a_read.front kept.image_a.same_content;
-    image_b = gate (file files.image_b) (file left.image_b) ib shut.image_b b read.image_b_read.front kept.image_b.same_content;
-    log_a = gate (file files.log_a) (file left.log_a) la shut.log_a c read.log_a_read.front kept.log_a.same_content;
-    log_b = gate (file files.log_b) (file left.log_b) lb shut.log_b d read.log_b_read.front kept.log_b.same_content;
+  pub read_gates : ((bytes : List ℕ) → ReportsShut (is_shut bytes) bytes) → (left : FourFiles D) → EachFile files left (KeepsFile disk)
+      → (shut : FourFiles Bool) → shut.image_a ≡ is_shut ia → shut.image_b ≡ is_shut ib → shut.log_a ≡ is_shut la → shut.log_b ≡ is_shut lb → AreGates disk.content left shut
+  read_gates reported left kept shut a b c d = record {
+    image_a = gate (disk.content files.image_a) (disk.content left.image_a) ia shut.image_a a read.image_a_read.front kept.image_a.same_content;
+    image_b = gate (disk.content files.image_b) (disk.content left.image_b) ib shut.image_b b read.image_b_read.front kept.image_b.same_content;
+    log_a = gate (disk.content files.log_a) (disk.content left.log_a) la shut.log_a c read.log_a_read.front kept.log_a.same_content;
+    log_b = gate (disk.content files.log_b) (disk.content left.log_b) lb shut.log_b d read.log_b_read.front kept.log_b.same_content;
   }
     where
       gate : (before after bytes : List ℕ) (flag : Bool) → flag ≡ is_shut bytes → IsFront before bytes → after ≡ before → ReportsShut flag after
@@ -86,7 +87,7 @@ module _ {D : Type 0} (file : D → List ℕ) (files : FourFiles D) (ia ib la lb
 -- bytes with this recovery, which are those of the files if these keep to the disk model
 chosen_by : {D : Type 0} (disk : Ghosts D) (honest : Bool) → disk.honest ≡ honest → (files : FourFiles D) (x : Result Recovery Refusal)
     (ia ib la lb : List ℕ) → Recovers ia ib la lb x → (IsTrue honest → AreFilesRead disk.content files ia ib la lb) → RecoversBytes disk files x
-chosen_by disk true is files x ia ib la lb e read = record { bytes = mapped disk.content files; recovers = read_recovers disk.content files ia ib la lb (read refl) x e; read = λ honest. refl }
+chosen_by disk true is files x ia ib la lb e read = record { bytes = mapped disk.content files; recovers = read_recovers disk files ia ib la lb (read refl) x e; read = λ honest. refl }
 chosen_by disk false is files x ia ib la lb e read = record {
   bytes = record { image_a = ia; image_b = ib; log_a = la; log_b = lb };
   recovers = e;

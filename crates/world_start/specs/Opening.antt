@@ -19,7 +19,7 @@ use Rattle.engine.specs.Runs.{HasNewest, SomeGrew}
 module _ {D : Type 0} (disk : Ghosts D) where
   -- nothing of the files is unsynced
   abbrev pub AreSynced : FourFiles D → Type 0
-  AreSynced files = EachFile files files (λ disk _. Only (disk.content disk) (disk.may_leave disk))
+  AreSynced files = EachFile files files (λ file _. Only (disk.content file) (disk.may_leave file))
 
   -- Nothing of the files is unsynced. They are sound for these ticks and this acknowledged count,
   -- or those of a new world, of which no tick has ended.

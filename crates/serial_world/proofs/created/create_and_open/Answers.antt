@@ -12,11 +12,10 @@ returns-clause-served g c = λ honest synced.
 
 pub returns-in_err-files-clause-left : goal.returns-in_err-files-clause-left
 returns-in_err-files-clause-left g c = λ honest.
-    let file = g.D.Disk.content in
-    let leaves = g.D.Disk.may_leave in
+    let D = g.D.Disk in
     let refused = c.in_err-files.field-0.0 in
-    if_same c.from_residual.result refused (λ r. IsNotCreated file leaves c.args.files c.args.cells r.1 r.0) c.from_residual.ensures.1
-    (none_made file leaves g.D.Disk.honest c.args.files c.args.cells refused.1 refused.0 (c.in_err-files.ensures.left honest))
+    if_same c.from_residual.result refused (λ r. IsNotCreated D c.args.files c.args.cells r.1 r.0) c.from_residual.ensures.1
+    (none_made D c.args.files c.args.cells refused.1 refused.0 (c.in_err-files.ensures.left honest))
 
 pub returns-clause-refused : goal.returns-clause-refused
 returns-clause-refused g c =
@@ -27,9 +26,8 @@ returns-clause-refused g c =
 
 pub returns-clause-left : goal.returns-clause-left
 returns-clause-left g c = λ honest.
-    let file = g.D.Disk.content in
-    let leaves = g.D.Disk.may_leave in
+    let D = g.D.Disk in
     let made = c.in_ok-files.files in
-    if_both c.open.result (λ r. IsRefused file g.D.Disk.honest made r.1) (λ r. IsNotOpened file leaves made r.1 r.0) (λ r. IsNotCreated file leaves c.args.files c.args.cells r.1 r.0)
-    (λ refused why left. new_left file leaves g.D.Disk.honest c.args.files made c.args.cells (c.in_ok-files.ensures.made honest) refused.1 refused.0 why left)
+    if_both c.open.result (λ r. IsRefused D made r.1) (λ r. IsNotOpened D made r.1 r.0) (λ r. IsNotCreated D c.args.files c.args.cells r.1 r.0)
+    (λ refused why left. new_left D c.args.files made c.args.cells (c.in_ok-files.ensures.made honest) refused.1 refused.0 why left)
     c.open.ensures.refused (c.open.ensures.left honest)

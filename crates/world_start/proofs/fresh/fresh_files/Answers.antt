@@ -12,7 +12,6 @@ pub returns-in-Ok-clause-made : goal.returns-in-Ok-clause-made
 returns-in-Ok-clause-made g c = λ honest.
     let D = g.D.Disk in
     let file = D.content in
-    let leaves = D.may_leave in
     let e = c.start.ensures in
     let last = c.start.new.self in
     let begun = c.in_ok-engine.ensures.begun honest in
@@ -25,7 +24,7 @@ returns-in-Ok-clause-made g c = λ honest.
     let settled = c.log_outcomes.ensures.settled last.log (file last.files.log_a) (file last.files.log_b) (order.log_fits honest) ready.ready rest.started in
     let base : last.log.base ≡ 0 = (let all = ready.all in omega (arith, all, ended, since)) in
     let first : last.log.current ≡ A = c.in-Ok.ensures.first begun.starting begun.queue in
-    subst (AreMade file leaves c.args.files c.args.cells) (sym c.into_files.ensures) (record {
+    subst (AreMade D c.args.files c.args.cells) (sym c.into_files.ensures) (record {
       closed = begun.closed;
       sound = λ synced. c.followed_files_are_sound.ensures.started last zeros [] 0 rest.started (e.follows honest zeros [] 0 (begun.follows synced));
       synced = λ synced.

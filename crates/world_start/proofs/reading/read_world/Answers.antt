@@ -43,6 +43,6 @@ returns-clause-found g c =
 pub returns-clause-gates : goal.returns-clause-gates
 returns-clause-gates g c = λ honest.
     let bytes = c.in_ok-bytes.bytes in
-    read_gates g.D.Disk.content c.args.files.now bytes.image_a.items bytes.image_b.items bytes.log_a.items bytes.log_b.items (c.in_ok-bytes.ensures.read honest) c.gates_are_reported.ensures
-    c.read_files.new.files g.D.Disk.may_leave (c.in_ok-bytes.ensures.kept honest) c.gates_of.result c.gates_of.ensures.image_a c.gates_of.ensures.image_b
+    read_gates g.D.Disk c.args.files.now bytes.image_a.items bytes.image_b.items bytes.log_a.items bytes.log_b.items (c.in_ok-bytes.ensures.read honest) c.gates_are_reported.ensures
+    c.read_files.new.files (c.in_ok-bytes.ensures.kept honest) c.gates_of.result c.gates_of.ensures.image_a c.gates_of.ensures.image_b
     c.gates_of.ensures.log_a c.gates_of.ensures.log_b

@@ -15,7 +15,7 @@ begin-requires-clause-newest g c = λ honest.
     holds_newest c.crash_restarts.ensures (length c.deref.result.now) (recovery_of_answer found) (file left.image_a) (file left.image_b) (file left.log_a) (file left.log_b)
     (ap length (sym c.deref.ensures.value))
     (recovers_on (Ok (recovery_of_answer found)) (sym kept.image_a.same_content) (sym kept.image_b.same_content) (sym kept.log_a.same_content) (sym kept.log_b.same_content)
-    (found_recovers file g.D.Disk.honest c.args.files found read.found honest))
+    (found_recovers g.D.Disk c.args.files found read.found honest))
 
 pub returns-in_ok-engine-in-Ok-clause-recovered : goal.returns-in_ok-engine-in-Ok-clause-recovered
 returns-in_ok-engine-in-Ok-clause-recovered g c =
