@@ -1,16 +1,19 @@
 -- Batches and checkpoints keep a world at rest, and in step with its ticks.
-use Rattle.std.proofs.Common.{◌≡◌, ◌⊎◌, ℕ, ◌+◌, Bool, inl, List, [], ◌∷◌, ◌++◌, true, false, Option, Some, None, is_some, if◌then◌else◌, sym, ap, subst, ◌∙◌}
+use Rattle.std.proofs.Common.{◌≡◌, ◌⊎◌, ℕ, ◌+◌, Bool, inl, inr, List, [], ◌∷◌, ◌++◌, true, false, Option, Some, None, is_some, if◌then◌else◌, sym, ap, subst, ◌∙◌}
 use Rattle.std.specs.Prelude.{IsTrue, IfNone, IfSome}
 use Rattle.world_actions.specs.declared.action.Action.{Action}
 use Rattle.world_actions.specs.declared.refusal.Refusal.{Refusal}
 use Rattle.world_actions.specs.declared.refusal.Refusal.TheVariants.{Starting}
+use Rattle.disk_model.specs.Disk.{Grew}
 use Rattle.disk_model.specs.declared.disk.Disk.{Ghosts}
+use Rattle.disk_model.specs.declared.four_files.FourFiles.{FourFiles}
 use Rattle.file_format.specs.declared.slot.Slot.{Slot}
 use Rattle.file_format.specs.Slot.{in_slot}
 use Rattle.image_files.specs.declared.phase.Phase.TheVariants.{Idle, Down, Closing, Header}
 use Rattle.image_files.specs.Image.{image_of, Open}
 use Rattle.image_files.specs.Images.{ImageFiles, NoneYet, Newest, ImageFilesAre, newest_in}
 use Rattle.image_files.specs.Progress.{Progress as ImageProgress, begun_keeper, newest_tick}
+use Rattle.action_log.specs.declared.progress.Progress.{Progress as LogProgress}
 use Rattle.action_log.specs.Progress.{work_of}
 use Rattle.engine.specs.World.{World, IsAtRest}
 use Rattle.engine.specs.Follows.{Follows}
@@ -67,6 +70,8 @@ module _ {D : Type 0} (disk : Ghosts D) where
     pub since : logged.since ≡ old.since + 1
     pub cells : logged.images.cells ≡ old.images.cells
     pub words : logged.content.live ≡ played.content.live
+    pub cause : old.log.down ≡ false → logged.log.down ≡ true
+        → Grew (disk.faults old.files.log_a) (disk.faults logged.files.log_a) ⊎ Grew (disk.faults old.files.log_b) (disk.faults logged.files.log_b)
     pub follows : IsTrue disk.honest → (first : List ℕ) (ticks : List (List Action)) (acknowledged : ℕ) → Follows disk old first ticks acknowledged
         → Follows disk logged first (ticks ++ actions ∷ []) acknowledged
 
@@ -88,6 +93,14 @@ module _ {D : Type 0} (disk : Ghosts D) where
         since = ap (λ (w : World D). w.since) w.rest ∙ (ap (λ (w : World D). w.since) e.2 ∙ ap (λ (w : World D). w.since + 1) d.rest);
         cells = ap (λ (k : ImageProgress). k.cells) images;
         words = ap (λ (w : World D). w.content.live) w.rest ∙ ap (λ (w : World D). w.content.live) e.2;
+        cause = λ up down.
+            let same : ended.log ≡ old.log = ap (λ (w : World D). w.log) e.2 ∙ ap (λ (w : World D). w.log) d.rest in
+            subst (λ (f : FourFiles D). Grew (disk.faults f.log_a) (disk.faults logged.files.log_a) ⊎ Grew (disk.faults f.log_b) (disk.faults logged.files.log_b))
+            (ap (λ (w : World D). w.files) e.2 ∙ ap (λ (w : World D). w.files) d.rest)
+            (elim (w.counts (ap (λ (k : LogProgress). k.down) same ∙ up)) [
+              | inl went ↦ absurd (let e : true ≡ false = sym down ∙ went.0 in cc)
+              | inr fell ↦ fell.1
+            ]);
         follows = λ sure first ticks acknowledged f.
             w.follows sure (inl still) first (ticks ++ actions ∷ []) acknowledged
             (subst (λ l. Follows disk ended first (ticks ++ l ∷ []) acknowledged) running

@@ -4,6 +4,7 @@ use Rattle.std.specs.Prelude.{Some, None, Result, Ok, Err}
 use Rattle.world_actions.specs.declared.action.Action.{Action}
 use Rattle.world_actions.specs.declared.refusal.Refusal.{Refusal}
 use Rattle.world_actions.specs.declared.refusal.Refusal.TheVariants.{LogDown, NoMemory}
+use Rattle.disk_model.specs.Disk.{Grew}
 use Rattle.disk_model.specs.declared.four_files.FourFiles.{FourFiles}
 use Rattle.disk_model.specs.declared.disk.Disk.{Ghosts}
 use Rattle.file_format.specs.declared.slot.Slot.{Slot}
@@ -69,12 +70,15 @@ module _ {C D : Type 0} (disk : Ghosts D) where
     pub open acknowledged use *
     pub text_is : text ≡ answer requests (words_of old) (old.engine.ended + 1)
 
-  -- the log went down before the tick of a batch was acknowledged
+  -- The log went down before the tick of a batch was acknowledged, since a call of one of its files
+  -- failed.
   pub record LosesLog (old : SerialState C D) (requests : List Request) (refusal : Refusal)
       (new : SerialState C D) : Type 0 where
     pub plays : PlaysTick old requests new
     pub is : refusal ≡ LogDown
     pub down : new.engine.log.down ≡ true
+    pub cause : Grew (disk.faults old.engine.files.log_a) (disk.faults new.engine.files.log_a)
+        ⊎ Grew (disk.faults old.engine.files.log_b) (disk.faults new.engine.files.log_b)
     pub acked : new.acked ≡ old.acked
     pub since : new.engine.since ≡ old.engine.since + 1
 

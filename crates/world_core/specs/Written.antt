@@ -1,5 +1,5 @@
 -- Files that no crash leaves empty, or shorter than a header.
-use Rattle.std.specs.Prelude.{◌≡◌, ◌<◌, ◌≤◌, ℕ, List, length, false, Ok}
+use Rattle.std.specs.Prelude.{◌≡◌, ◌<◌, ◌≤◌, ℕ, List, length, false, Ok, Bool}
 use Rattle.disk_model.specs.FileState.{FileState}
 use Rattle.disk_model.specs.declared.four_files.FourFiles.{FourFiles}
 use Rattle.image_files.specs.Progress.{newest_tick}
@@ -31,11 +31,11 @@ NoneIsEmpty files =
 abbrev pub IsWritten : (count : ℕ) → FileState → Type 0
 IsWritten count file = count ≤ length file.durable
 
--- Of files of a core after so many ticks: the header of log.a and a byte of log.b are written once
+-- The files of a core after so many ticks. The header of log.a and a byte of log.b are written once
 -- the start has ended, and if a tick has ended. The headers of both images are written if the newest
 -- one is of a tick above 0.
-pub record FilesAreWritten (ended : ℕ) (starting : Bool) (newest : ℕ) (files : FourFiles File)
-    : Type 0 where
+pub record FilesAreWritten (ended : ℕ) (starting : Bool) (newest : ℕ)
+    (files : FourFiles File) : Type 0 where
   pub started : starting ≡ false
       → IsWritten LOG_HEADER files.log_a.inner × IsWritten 1 files.log_b.inner
   pub ticked : 0 < ended → IsWritten LOG_HEADER files.log_a.inner × IsWritten 1 files.log_b.inner

@@ -31,6 +31,7 @@ returns-then-log_is_down-clause-refused g c =
       };
       is = refl;
       down = sym c.if-log_is_down.ensures;
+      cause = l.cause c.in_default.ensures.room.1 (sym c.if-log_is_down.ensures);
       acked = refl;
       since = l.since;
     })
