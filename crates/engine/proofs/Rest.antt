@@ -5,7 +5,7 @@ use Rattle.world_actions.specs.declared.action.Action.{Action}
 use Rattle.disk_model.specs.declared.disk.Disk.{Ghosts}
 use Rattle.world_ticks.specs.After.{after_ticks}
 use Rattle.image_files.specs.declared.phase.Phase.TheVariants.{Idle}
-use Rattle.image_files.specs.Images.{Images, ImageFiles, Newest, round_in}
+use Rattle.image_files.specs.Images.{Images, Newest}
 use Rattle.action_log.specs.declared.record.Record.{Record}
 use Rattle.action_log.specs.declared.record.Record.TheVariants as records
 use Rattle.action_log.specs.declared.phase.Phase.{Phase}
@@ -14,7 +14,7 @@ use Rattle.action_log.specs.declared.phase.Phase.TheVariants.{Ready}
 use Rattle.action_log.specs.declared.progress.Progress.{Progress as LogProgress}
 use Rattle.action_log.specs.Queue.{QueueEnd, queue_work}
 use Rattle.action_log.specs.Progress.{rest_in, work_of, end_of}
-use Rattle.action_log.specs.Logs.{Logs, Writing, LogPlace}
+use Rattle.action_log.specs.Logs.{Logs, Writing}
 use Rattle.recovery.specs.Follow.{round_tick, base_in, coming}
 use Rattle.recovery.specs.Events.{IsKept}
 use Rattle.restart.specs.InStep.{InStep, IsSettled}

@@ -1,15 +1,10 @@
 -- Steps of a keeper one after another.
-use Rattle.std.proofs.Common.{◌≡◌, ◌↔◌, ◌⊎◌, ◌<◌, inl, inr, ℕ, Bool, true, false, IsTrue, List, [], ◌∷◌, ◌++◌, length, refl, sym, ap, subst, ◌∙◌, arith}
-use Rattle.world_actions.specs.declared.action.Action.{Action}
+use Rattle.std.proofs.Common.{◌≡◌, ◌⊎◌, ◌<◌, inl, inr, true, false, List, [], ◌∷◌, ◌++◌, length, refl, sym, ap, subst, ◌∙◌, arith}
 use Rattle.file_format.specs.declared.slot.Slot.TheVariants.{A}
-use Rattle.disk_model.specs.Disk.{Call}
 use Rattle.disk_model.specs.declared.disk.Disk.{Ghosts}
-use Rattle.disk_model.specs.declared.four_files.FourFiles.{FourFiles}
 use Rattle.image_files.specs.declared.answer.ImageAnswer.{ImageAnswer}
-use Rattle.image_files.specs.declared.phase.Phase.{Phase}
 use Rattle.image_files.specs.declared.phase.Phase.TheVariants.{Idle, Down}
-use Rattle.image_files.specs.Images.{Round, round_in}
-use Rattle.image_files.specs.Progress.{Progress as ImageProgress, left_of}
+use Rattle.image_files.specs.Progress.{left_of}
 use Rattle.action_log.specs.declared.answer.LogAnswer.{LogAnswer}
 use Rattle.action_log.specs.declared.phase.Phase.TheVariants.{Ready}
 use Rattle.action_log.specs.declared.record.Record.{Record}
@@ -18,9 +13,8 @@ use Rattle.action_log.specs.Queue.{queue_work}
 use Rattle.action_log.specs.Progress.{rest_in, work_of, taken}
 use Rattle.recovery.specs.Events.{acknowledged_opened, acknowledged_after}
 use Rattle.engine.specs.World.{World}
-use Rattle.engine.specs.Follows.{Follows}
 use Rattle.engine.specs.Steps.{TakesImageStep, TakesLogStep}
-use Rattle.engine.specs.Runs.{IsFirst, RunsImages, RunsLog, RunFaults}
+use Rattle.engine.specs.Runs.{IsFirst, RunsImages, RunsLog}
 use Rattle.engine.specs.Laws.{EventLaws, KeeperLaws}
 use Rattle.engine.proofs.Rounds.{tick_step}
 use Rattle.engine.proofs.Faults.{image_faults, log_faults}

@@ -1,5 +1,5 @@
 -- A world at rest, taken apart.
-use Rattle.std.specs.Prelude.{◌≡◌, ◌≤◌, ◌⊎◌, ℕ, ◌+◌, Bool, false, IsTrue, List, All, length}
+use Rattle.std.specs.Prelude.{◌≡◌, ◌≤◌, ◌⊎◌, ℕ, ◌+◌, false, IsTrue, List, All, length}
 use Rattle.world_actions.specs.World.{IsWord}
 use Rattle.world_actions.specs.declared.action.Action.{Action}
 use Rattle.disk_model.specs.declared.disk.Disk.{Ghosts}

@@ -1,11 +1,10 @@
 -- Steps of a keeper until it has nothing left to do, or is down.
-use Rattle.std.specs.Prelude.{◌≡◌, ◌⊎◌, ◌<◌, ℕ, Bool, true, false, IsTrue, Some, None}
+use Rattle.std.specs.Prelude.{◌≡◌, ◌⊎◌, ◌<◌, ℕ, true, false, IsTrue, Some, None}
 use Rattle.std.specs.Prelude.{List, [], length, slice_index}
 use Rattle.file_format.specs.declared.slot.Slot.{Slot}
 use Rattle.file_format.specs.declared.slot.Slot.TheVariants.{A}
 use Rattle.disk_model.specs.Disk.{Grew}
 use Rattle.disk_model.specs.declared.disk.Disk.{Ghosts}
-use Rattle.image_files.specs.declared.phase.Phase.{Phase}
 use Rattle.image_files.specs.declared.phase.Phase.TheVariants.{Idle, Down}
 use Rattle.image_files.specs.Progress.{Progress as ImageProgress}
 use Rattle.action_log.specs.declared.phase.Phase.TheVariants.{Ready}

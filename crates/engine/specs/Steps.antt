@@ -1,5 +1,5 @@
 -- The effect of each operation on a world.
-use Rattle.std.specs.Prelude.{◌≡◌, ◌↔◌, ◌⊎◌, ◌<◌, ℕ, ◌+◌, Bool, true, false, IsTrue, List, [], ◌∷◌}
+use Rattle.std.specs.Prelude.{◌≡◌, ◌↔◌, ◌⊎◌, ◌<◌, ℕ, ◌+◌, true, false, IsTrue, List, [], ◌∷◌}
 use Rattle.std.specs.Prelude.{◌++◌, length, Ok}
 use Rattle.world_actions.specs.declared.action.Action.{Action}
 use Rattle.world_actions.specs.Effect.{writes_of}
@@ -8,7 +8,7 @@ use Rattle.world_ticks.specs.After.{after_actions}
 use Rattle.capture_core.specs.Content.{content_after, Marks, Takes, Covers}
 use Rattle.file_format.specs.declared.slot.Slot.TheVariants.{A}
 use Rattle.file_format.specs.Slot.{of_slot}
-use Rattle.disk_model.specs.Disk.{Call, Grew}
+use Rattle.disk_model.specs.Disk.{Grew}
 use Rattle.disk_model.specs.declared.disk.Disk.{Ghosts}
 use Rattle.image_files.specs.declared.phase.Phase.TheVariants.{Idle, Down}
 use Rattle.image_files.specs.declared.answer.ImageAnswer.{ImageAnswer}

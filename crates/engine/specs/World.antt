@@ -1,5 +1,5 @@
 -- A world in memory with its four files, as contracts see it.
-use Rattle.std.specs.Prelude.{◌≡◌, ◌≤◌, ◌⊎◌, ℕ, ◌+◌, ◌-◌, Bool, true, false, IsTrue, List, []}
+use Rattle.std.specs.Prelude.{◌≡◌, ◌≤◌, ◌⊎◌, ℕ, ◌+◌, ◌-◌, true, false, IsTrue, List, []}
 use Rattle.std.specs.Prelude.{length}
 use Rattle.world_actions.specs.declared.action.Action.{Action}
 use Rattle.world_ticks.specs.declared.tick.TheConstants.{TICK_MAX}

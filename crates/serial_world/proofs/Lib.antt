@@ -1,3 +1,1 @@
-pub mod FreshlyServed
-pub mod NotCreated
 pub mod Playing

@@ -10,12 +10,10 @@
 //! `acked` (`served_worlds_are_safe`).
 #![tactic(auto)]
 
-mod created;
 mod laws;
 mod state;
 mod world;
 
-pub use created::create_and_open;
 pub use laws::served_worlds_are_safe;
 // A world that is served, whoever its clients are.
 pub use world::{SerialWorld, SerialWorld as Served};

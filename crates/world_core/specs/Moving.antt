@@ -1,7 +1,5 @@
 -- The effect of each move on the state of a core.
 use Rattle.std.specs.Prelude.{◌≡◌, ◌⊎◌, Bool, true, false, ◌&&◌}
-use Rattle.disk_model.specs.FileState.{Calls}
-use Rattle.disk_model.specs.Fused.{CallsThrough}
 use Rattle.image_files.specs.declared.answer.ImageAnswer.{ImageAnswer}
 use Rattle.action_log.specs.declared.answer.LogAnswer.{LogAnswer}
 use Rattle.action_log.specs.declared.answer.LogAnswer.TheVariants as log_answer

@@ -5,7 +5,6 @@ use Rattle.std.specs.Prelude.{replicate, Vec}
 use Rattle.std.specs.declared.alloc.Global.{Global}
 use Rattle.disk_model.specs.declared.leaving.Leaving.{Leaving}
 use Rattle.disk_model.specs.Leaving.{left_by}
-use Rattle.disk_model.specs.FileState.{FileState}
 use Rattle.image_files.specs.declared.answer.ImageAnswer.{ImageAnswer}
 use Rattle.image_files.specs.declared.answer.ImageAnswer.TheVariants as image_answer
 use Rattle.image_files.specs.Progress.{left_of}

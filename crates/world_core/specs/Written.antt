@@ -32,8 +32,8 @@ abbrev pub IsWritten : (count : ℕ) → FileState → Type 0
 IsWritten count file = count ≤ length file.durable
 
 -- The files of a core after so many ticks. The header of log.a and a byte of log.b are written once
--- the start has ended, and if a tick has ended. The headers of both images are written if the newest
--- one is of a tick above 0.
+-- the start has ended, and if a tick has ended. The headers of both images are written if the
+-- newest one is of a tick above 0.
 pub record FilesAreWritten (ended : ℕ) (starting : Bool) (newest : ℕ)
     (files : FourFiles File) : Type 0 where
   pub started : starting ≡ false

@@ -198,7 +198,8 @@ module _ {D : Type 0} (disk : Ghosts D) where
             λ none.
             (let e : Some (r.slot, r.from) ≡ None = sym (ap (λ (k : ImageProgress). k.newest) b.images ∙ started_newest (nat_lt r.from r.tick) r.tick _) ∙ none in absurd (let h = e in cc));
         follows = λ first ticks acknowledged w.
-            let all = all_recovered once stays r files there first ticks acknowledged w.synced (world_sound once r files there first ticks acknowledged w) in ( all.0,
+            let all = all_recovered once stays r files there first ticks acknowledged w.synced (world_sound once r files there first ticks acknowledged w) in (
+              all.0,
               recovered_follows events keepers once restarts stays r shut left world is_world most here gates b first ticks r.tick
                   (synced_on files left kept w.synced) (sound_on files left kept first ticks r.tick all.1),
             );

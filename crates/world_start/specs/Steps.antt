@@ -1,5 +1,5 @@
 -- A world at the beginning of its start. The last two parts are for private functions alone.
-use Rattle.std.specs.Prelude.{◌≡◌, ℕ, Bool, true, false, List, [], All, replicate, Ok}
+use Rattle.std.specs.Prelude.{◌≡◌, ℕ, true, false, List, [], All, replicate, Ok}
 use Rattle.world_actions.specs.World.{IsWord}
 use Rattle.disk_model.specs.declared.four_files.FourFiles.{FourFiles}
 use Rattle.disk_model.specs.declared.disk.Disk.{Ghosts}

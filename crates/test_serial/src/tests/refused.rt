@@ -1,9 +1,10 @@
 //! Files in which a world isn't made or isn't opened.
 use super::same::same;
 use super::worlds::{IMAGE, NONE, bytes_of, files_of, fresh, reported, stands};
+use crate::create_and_open;
 use capture_core::PlainCopy;
 use disk_model::{FourFiles, ModelFile};
-use serial_world::{SerialWorld, create_and_open};
+use serial_world::SerialWorld;
 use std::alloc::Global;
 use std::process::Abort;
 use world_actions::Refusal;

@@ -3,10 +3,11 @@ ghost use Rattle.std.specs.Prelude.{◌≤◌};
 ghost use Rattle.world_actions.specs.declared.world.TheConstants.{CELLS};
 
 use super::same::same;
+use crate::create_and_open;
 use capture_core::Capture;
 use disk_model::{Disk, FourFiles, ModelFile};
 use recovery::{Recovered, recover};
-use serial_world::{SerialWorld, create_and_open};
+use serial_world::SerialWorld;
 use sessions::serve_lines;
 use std::alloc::Global;
 use std::io::{self, Read};

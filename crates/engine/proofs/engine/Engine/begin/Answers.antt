@@ -1,4 +1,4 @@
-use Rattle.std.proofs.Common.{refl, sym, subst, ap, ◌∙◌, Bool, length}
+use Rattle.std.proofs.Common.{refl, subst, ap, ◌∙◌, Bool, length}
 use Rattle.image_files.specs.Progress.{made_keeper}
 use Rattle.restart.specs.Start.{IsBuilt, started_keeper}
 use Rattle.engine.proofs.Beginning.{begins_in_order}

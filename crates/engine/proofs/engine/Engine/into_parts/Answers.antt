@@ -1,8 +1,6 @@
 use Rattle.std.proofs.Common.{◌≡◌, false, sym, ap, ◌∙◌, subst, length, arith}
-use Rattle.image_files.specs.declared.phase.Phase.TheVariants.{Idle}
 use Rattle.restart.specs.InStep.{IsSettled}
-use Rattle.engine.specs.World.{World, IsAtRest, IsInOrder}
-use Rattle.engine.specs.Parts.{AreSettled}
+use Rattle.engine.specs.World.{World, IsAtRest}
 use Rattle.engine.specs.Follows.{Follows}
 use Rattle.engine.proofs.Rest.{none_waits, no_work, log_is_ready, settles}
 use Rattle.engine.proofs.engine.Engine.into_parts.Goals as goal

@@ -1,6 +1,4 @@
-use Rattle.std.proofs.Common.{true, subst, ◌∙◌}
-use Rattle.disk_model.specs.FileState.{Calls}
-use Rattle.disk_model.specs.Fused.{CallsThrough}
+use Rattle.std.proofs.Common.{subst, ◌∙◌}
 use Rattle.engine.specs.Fuses.{images_armed}
 use Rattle.engine.specs.Steps.{TakesImageStep}
 use Rattle.world_core.specs.State.{State, core_disk}

@@ -1,6 +1,4 @@
-use Rattle.std.proofs.Common.{true, inr, sym, ap, subst, ◌∙◌}
-use Rattle.disk_model.specs.FileState.{Calls}
-use Rattle.disk_model.specs.Fused.{CallsThrough}
+use Rattle.std.proofs.Common.{inr, sym, ap, subst, ◌∙◌}
 use Rattle.engine.specs.Fuses.{log_armed}
 use Rattle.engine.specs.Steps.{TakesLogStep}
 use Rattle.world_core.specs.State.{State, core_disk}

@@ -1,9 +1,10 @@
 use Rattle.std.proofs.lemmas.Result.{IfOk-weaker, IfErr-weaker}
 use Rattle.world_start.specs.Opening.{IsRefused}
-use Rattle.serial_world.specs.Opened.{IsNotOpened, IsNotCreated}
-use Rattle.serial_world.proofs.FreshlyServed.{served_fresh}
-use Rattle.serial_world.proofs.NotCreated.{if_same, if_both, new_refused, new_left, none_made}
-use Rattle.serial_world.proofs.created.create_and_open.Goals as goal
+use Rattle.serial_world.specs.Opened.{IsNotOpened}
+use Rattle.test_serial.specs.Created.{IsNotCreated}
+use Rattle.test_serial.proofs.FreshlyServed.{served_fresh}
+use Rattle.test_serial.proofs.NotCreated.{if_same, if_both, new_refused, new_left, none_made}
+use Rattle.test_serial.proofs.created.create_and_open.Goals as goal
 
 pub returns-clause-served : goal.returns-clause-served
 returns-clause-served g c = λ honest synced.

@@ -13,7 +13,8 @@ use Rattle.recovery.specs.Recovery.{Recovery, Recovers, Newest, recovery_with, r
 use Rattle.engine.specs.Follows.{AreSound}
 use Rattle.world_start.specs.Opening.{IsRefused, RecoversAll}
 use Rattle.world_start.specs.Fresh.{AreMade, AreNotMade}
-use Rattle.serial_world.specs.Opened.{IsNotOpened, IsRefusedNew, IsNotCreated}
+use Rattle.serial_world.specs.Opened.{IsNotOpened}
+use Rattle.test_serial.specs.Created.{IsRefusedNew, IsNotCreated}
 
 pub if_same : {T E : Type 0} (r : Result T E) (error : E) (P : E → Type 0) → IsErrAnd r (λ e. e ≡ error) → P error → IfErr r P
 if_same (Ok value) error P h p = tt

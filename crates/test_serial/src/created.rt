@@ -1,12 +1,12 @@
 ghost use Rattle.std.specs.Prelude.{◌≡◌, ◌≤◌, IsTrue, IfOk, IfErr};
 ghost use Rattle.world_actions.specs.declared.world.TheConstants.{CELLS};
 ghost use Rattle.world_start.specs.Opening.{AreSynced, HasFaulted};
-ghost use Rattle.serial_world.specs.Opened.{IsServedFresh, IsRefusedNew, IsNotCreated};
+ghost use Rattle.test_serial.specs.Created.{IsServedFresh, IsRefusedNew, IsNotCreated};
 
-use crate::world::SerialWorld;
 use action_log::segments_read_once;
 use capture_core::Capture;
 use disk_model::{Disk, FourFiles};
+use serial_world::SerialWorld;
 use std::alloc::Global;
 use world_actions::Refusal;
 use world_start::fresh_files;
@@ -24,8 +24,7 @@ pub fn create_and_open<C: Capture, D: Disk>(
     ensures served { IsTrue D.honest → AreSynced D.Disk files
         → IfOk result (IsServedFresh D.Disk cells) }
     ensures every { IfOk result (λ served. served.every ≡ every) }
-    ensures refused { IfErr result (λ refused.
-        IsRefusedNew D.Disk files refused.1) }
+    ensures refused { IfErr result (λ refused. IsRefusedNew D.Disk files refused.1) }
     ensures left { IsTrue D.honest → IfErr result (λ refused.
         IsNotCreated D.Disk files cells refused.1 refused.0) }
     ensures device { IfErr result (λ refused. HasFaulted D.faults files refused.0 refused.1) }

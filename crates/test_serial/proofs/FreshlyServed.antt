@@ -10,7 +10,8 @@ use Rattle.serial_world.specs.declared.state.SerialState.{SerialState}
 use Rattle.serial_world.specs.Runs.{words_of, Serves}
 use Rattle.world_start.specs.Opening.{AreSynced}
 use Rattle.world_start.specs.Fresh.{AreMade}
-use Rattle.serial_world.specs.Opened.{IsOpened, IsServedFresh}
+use Rattle.serial_world.specs.Opened.{IsOpened}
+use Rattle.test_serial.specs.Created.{IsServedFresh}
 
 none_taken : (n : ℕ) (none : List (List Action)) → none ≡ [] → take n none ≡ []
 none_taken zero none e = subst (λ (l : List (List Action)). take 0 l ≡ []) (sym e) refl

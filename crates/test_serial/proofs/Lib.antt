@@ -1,0 +1,2 @@
+pub mod FreshlyServed
+pub mod NotCreated
