@@ -6,7 +6,7 @@ use Rattle.client_service.specs.declared.server.NotServed.{NotServed}
 use Rattle.client_service.specs.declared.server.NotServed.TheVariants.{NoMemory as ServedNoMemory}
 use Rattle.client_service.specs.declared.server.NotServed.TheVariants.{NoThread as ServedNoThread}
 
--- how many milliseconds accepting waits after a pause of so many, of which 0 is none
+-- how many milliseconds accepting waits after this pause, of which 0 is none
 abbrev pub next_pause : ℕ → ℕ
 next_pause pause = if pause == 0 then 10 else min (2 * pause) 1000
 

@@ -1,7 +1,7 @@
 ghost use Rattle.std.specs.Prelude.{◌≡◌, ◌≢◌, ◌+◌, ◌≤◌};
 
 use crate::door::Door;
-use crate::failure::{Failure, Shortage};
+use crate::failure::{AcceptFailure, Shortage};
 use crate::incoming::Incoming;
 use crate::session::JoinedSessions;
 use crate::session_threads::{Sessions, Shared};
@@ -164,9 +164,9 @@ fn accept_all<
                     shared.door.session_refused(why);
                 }
             }
-            Err((Failure::Interrupted | Failure::OneClient, _)) => {}
-            Err((Failure::Shortage, error)) => shortage.wait(rt, &mut shared.door, &error),
-            Err((Failure::Listener, error)) => {
+            Err((AcceptFailure::Interrupted | AcceptFailure::OneClient, _)) => {}
+            Err((AcceptFailure::Shortage, error)) => shortage.wait(rt, &mut shared.door, &error),
+            Err((AcceptFailure::Listener, error)) => {
                 shared.door.listener_failed(&error);
                 return Closed::Failed(error);
             }

@@ -15,7 +15,7 @@ const ENOBUFS: i32 = 105;
 
 /// Why an `accept` failed, by what follows for the next one.
 #[derive(Clone, Copy, Debug, PartialEq, Eq)]
-pub enum Failure {
+pub enum AcceptFailure {
     /// A signal interrupted it.
     Interrupted,
     /// The one client that had come has left.
@@ -27,25 +27,27 @@ pub enum Failure {
 }
 
 /// The failure that an error of `accept` means.
-pub fn failure_of(error: &io::Error) -> Failure
-    ensures interrupted { raw_os_error error.now ≡ Some (pos 4) → result ≡ Failure.Interrupted }
-    ensures no_memory { raw_os_error error.now ≡ Some (pos 12) → result ≡ Failure.Shortage }
+pub fn failure_of(error: &io::Error) -> AcceptFailure
+    ensures interrupted { raw_os_error error.now ≡ Some (pos 4)
+        → result ≡ AcceptFailure.Interrupted }
+    ensures no_memory { raw_os_error error.now ≡ Some (pos 12) → result ≡ AcceptFailure.Shortage }
     ensures no_descriptor_of_the_system { raw_os_error error.now ≡ Some (pos 23)
-        → result ≡ Failure.Shortage }
+        → result ≡ AcceptFailure.Shortage }
     ensures no_descriptor_of_the_process { raw_os_error error.now ≡ Some (pos 24)
-        → result ≡ Failure.Shortage }
-    ensures one_client { raw_os_error error.now ≡ Some (pos 103) → result ≡ Failure.OneClient }
-    ensures no_buffer { raw_os_error error.now ≡ Some (pos 105) → result ≡ Failure.Shortage }
+        → result ≡ AcceptFailure.Shortage }
+    ensures one_client { raw_os_error error.now ≡ Some (pos 103)
+        → result ≡ AcceptFailure.OneClient }
+    ensures no_buffer { raw_os_error error.now ≡ Some (pos 105) → result ≡ AcceptFailure.Shortage }
     ensures other { (code : ℤ) → raw_os_error error.now ≡ Some code → code ≢ pos 4
         → code ≢ pos 12 → code ≢ pos 23
-        → code ≢ pos 24 → code ≢ pos 103 → code ≢ pos 105 → result ≡ Failure.Listener }
-    ensures none { raw_os_error error.now ≡ None → result ≡ Failure.Listener }
+        → code ≢ pos 24 → code ≢ pos 103 → code ≢ pos 105 → result ≡ AcceptFailure.Listener }
+    ensures none { raw_os_error error.now ≡ None → result ≡ AcceptFailure.Listener }
 {
     match error.raw_os_error() {
-        Some(EINTR) => Failure::Interrupted,
-        Some(ENOMEM | ENFILE | EMFILE | ENOBUFS) => Failure::Shortage,
-        Some(ECONNABORTED) => Failure::OneClient,
-        _ => Failure::Listener,
+        Some(EINTR) => AcceptFailure::Interrupted,
+        Some(ENOMEM | ENFILE | EMFILE | ENOBUFS) => AcceptFailure::Shortage,
+        Some(ECONNABORTED) => AcceptFailure::OneClient,
+        _ => AcceptFailure::Listener,
     }
 }
 

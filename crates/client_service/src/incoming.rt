@@ -1,7 +1,7 @@
 //! The clients that come to a listener, each counted once.
 ghost use Rattle.std.specs.Prelude.{◌≡◌, ◌≢◌, ◌+◌, ◌<◌, OnOk, IfErr};
 
-use crate::failure::{Failure, failure_of};
+use crate::failure::{AcceptFailure, failure_of};
 use std::io;
 use transports::{Listener, Stream};
 
@@ -20,12 +20,12 @@ impl Incoming {
     }
 
     /// Waits for the next client. One that left before it was accepted has come too.
-    pub fn next(&mut self) -> Result<Stream, (Failure, io::Error)>
+    pub fn next(&mut self) -> Result<Stream, (AcceptFailure, io::Error)>
         requires { self.old.came < 4294967295 }
         ensures came { OnOk result (self.new.came ≡ self.old.came + 1) }
-        ensures left { IfErr result (λ why. why.0 ≡ Failure.OneClient
+        ensures left { IfErr result (λ why. why.0 ≡ AcceptFailure.OneClient
             → self.new.came ≡ self.old.came + 1) }
-        ensures none { IfErr result (λ why. why.0 ≢ Failure.OneClient
+        ensures none { IfErr result (λ why. why.0 ≢ AcceptFailure.OneClient
             → self.new.came ≡ self.old.came) }
     {
         match self.listener.accept() {
@@ -35,7 +35,7 @@ impl Incoming {
             }
             Err(error) => {
                 let failure = failure_of(&error);
-                if failure == Failure::OneClient {
+                if failure == AcceptFailure::OneClient {
                     self.came += 1;
                 }
                 Err((failure, error))

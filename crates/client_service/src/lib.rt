@@ -1,6 +1,6 @@
 //! The clients of a world that workers run: a thread for each connection.
 //!
-//! `serve_clients` starts the workers of an open world, serves so many connections, and stops them.
+//! `serve_clients` starts the workers of an open world, serves its clients, and stops them.
 //! A session reads batches and sends each to the mutator. It writes the log writer's post of a
 //! batch, which comes only after the batch's tick is durable. A client that fails or leaves ends
 //! only its own session. Sessions that have ended are joined before the next wait for a connection.

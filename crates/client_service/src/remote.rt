@@ -21,7 +21,7 @@ pub struct Remote<R: Wait + Copy> {
     /// The place where its replies come. There is none before its first ask, and after one
     /// that wasn't sent.
     slot: Option<ReplySlot>,
-    /// How often it looks for a reply before it sleeps. Without this it sleeps at once.
+    /// How often it spins for a reply before it sleeps. Without this it sleeps at once.
     spins: Option<Spins>,
     /// The memory for the next batch on its way: that of the last one that came back.
     spare: Batch,
@@ -74,7 +74,7 @@ impl<R: Wait + Copy> Remote<R> {
         self.pulse = pulse;
     }
 
-    /// The same, which spins for its replies.
+    /// Lets it spin for its replies.
     pub fn spinning(self, spins: Spins) -> Self
         ensures { result ≡ self }
     {
@@ -105,7 +105,7 @@ impl<R: Wait + Copy> Remote<R> {
         Ok(b.try_copy(spare)?)
     }
 
-    // The same as `ask`, and counts the batch and its answer.
+    // Sends a batch as `ask` does, and counts the batch and its answer.
     fn ask_counted(&mut self, b: &Batch, buffer: Vec<u8>) -> Result<Post, Refusal>
         ensures ok { IfOk result (IsAnsweredBy self.old b.now.list self.new) }
         ensures err { IfErr result (IsRefusedFor self.old self.new) }

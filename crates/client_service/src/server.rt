@@ -84,8 +84,7 @@ pub fn serve_clients<
     listener: Listener,
     admission: Admission,
 ) -> Result<Stopped<M, D, A, B, C>, NotServed>
-    requires { IsWhole D.honest D.content opened.front opened.back opened.images
-        opened.log opened.ended }
+    requires { IsWhole D.Disk opened }
     ensures all { IfOk result (λ stopped. stopped.accepted.closed ≡ Closed.AllCame
         → stopped.accepted.connections ≡ admission.clients) }
     ensures some { IfOk result (λ stopped. stopped.accepted.connections ≤ admission.clients) }
@@ -96,14 +95,14 @@ pub fn serve_clients<
         × (stopped.workers.checkpointer.opening ≡ opened.images)
         × (stopped.workers.log_writer.opening ≡ opened.log)) }
     ensures sound { IsTrue D.honest → IfOk result (λ stopped.
-        StaysSound D.content D.may_leave opened.front.live opened.images opened.log opened.ended
-        stopped.workers.mutator stopped.workers.checkpointer stopped.workers.log_writer) }
+        StaysSound D.Disk opened stopped.workers.mutator stopped.workers.checkpointer
+        stopped.workers.log_writer) }
     ensures in_turn { IfOk result (λ stopped.
         PlaysInTurn stopped.workers.mutator.asks.taken stopped.workers.mutator.to.items) }
     ensures acked { IfOk result (λ stopped. opened.ended ≤ stopped.workers.log_writer.acked) }
     ensures every { IfOk result (λ stopped. stopped.workers.mutator.every ≡ every) }
     ensures heard { IfOk result (λ stopped.
-        HeardOnlyOfDown stopped.workers.mutator.heard.ticks stopped.workers.log_writer.down) }
+        HeardOnlyOfDown stopped.workers.mutator.heard.numbers stopped.workers.log_writer.down) }
 {
     let door = watch.clone()?;
     let spins = Spins::on_this_machine(rt, alloc)?;

@@ -48,7 +48,7 @@ pub fn serve_batches<R: Wait + Copy, B: Read, W: Write>(
 }
 
 /// Serves a connection as the session of this asker, until its client leaves. It also ends if the
-/// client neither sends nor takes a byte for so many seconds, or by a fault, which ends no other
+/// client neither sends nor takes a byte for `idle` seconds, or by a fault, which ends no other
 /// session. The bytes after a batch that is too long are read and dropped, so that its answer
 /// arrives. The door hears of a session that has no memory.
 pub fn serve_session<R: Wait + Copy, W: Door + Drop>(

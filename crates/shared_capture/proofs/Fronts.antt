@@ -11,6 +11,7 @@ use Rattle.atomic_table.specs.Seated.{TableId}
 use Rattle.packed_marks.specs.Marks.{IsPacked}
 use Rattle.packed_marks.specs.Bits.{chunks, is_set, marked, IsFull}
 use Rattle.packed_marks.proofs.MarkLemmas.{marked_put, packed-put}
+use Rattle.std.proofs.Math.Bool.{not-not}
 use Rattle.shared_capture.specs.declared.method.Kind.{Kind}
 use Rattle.shared_capture.specs.declared.method.Kind.TheVariants.{Zigzag, PingPong}
 use Rattle.shared_capture.specs.declared.view.FrontView.{FrontView}
@@ -23,7 +24,6 @@ use Rattle.shared_capture.specs.Start.{front_start, back_start}
 use Rattle.shared_capture.specs.Steps.{front_of, after_load, after_write, after_mark, after_open, back_of}
 use Rattle.shared_capture.specs.Seats.{TableSeat, IsFront, IsFrontOf, IsReady, SameRest, FitsCells, IsSeated}
 use Rattle.shared_capture.specs.States.{FrontState, IsStart, front_state, back_state}
-use Rattle.shared_capture.proofs.Places.{not_not}
 use Rattle.shared_capture.proofs.Keeps.{zigzag≢ping_pong}
 use Rattle.shared_capture.proofs.Touched.{touched_set, touched_same, touched_full}
 use Rattle.shared_capture.proofs.Packed.{none_marked, full_packed, zeros_packed}
@@ -85,7 +85,7 @@ module _ (kind : Kind) (t : TableId) (n : ℕ) (seat new : TableSeat) (live mark
         word_written s (set away (i / 64) w) k (λ p. absurd (zigzag≢ping_pong kind e p)) (λ p. packed-put n away i w (not s) (ok.away_packed p) inside here others)
         (λ p j l. ap (λ (z : FrontView). flag_at z.sides j) is ∙ dite (ℕ_discrete j i)
         (λ h. subst (λ (z : ℕ). flag_at (set f.sides i s) z ≡ not (marked (set away (i / 64) w) z)) (sym h)
-        (get_or-set_same f.sides i s false (omega (arith, ok.fits.1)) ∙ (sym (not_not s) ∙ ap not (sym becomes.0))))
+        (get_or-set_same f.sides i s false (omega (arith, ok.fits.1)) ∙ (sym (not-not s) ∙ ap not (sym becomes.0))))
         (λ ne. get_or-set_other f.sides i j s false ne ∙ (ok.away_are p j l ∙ ap not (sym (becomes.1 j ne)))))
 
     pub ping_pong_written : kind ≡ PingPong → IsFront t (after_mark (i / 64) w (after_write i current v f)) new

@@ -13,6 +13,7 @@ use Rattle.capture_core.specs.declared.taker.Taken.{Taken}
 use Rattle.capture_core.specs.declared.taker.Taken.TheVariants.{Word, Same}
 use Rattle.packed_marks.specs.Marks.{IsPacked}
 use Rattle.packed_marks.specs.Bits.{chunks, is_set, marked}
+use Rattle.std.proofs.Math.Bool.{not-not}
 use Rattle.shared_capture.specs.declared.method.Kind.{Kind}
 use Rattle.shared_capture.specs.declared.method.Kind.TheVariants.{Zigzag, PingPong}
 use Rattle.shared_capture.specs.declared.view.Round.{Round}
@@ -26,7 +27,7 @@ use Rattle.shared_capture.specs.Rule.{Left, IsOpen, Core}
 use Rattle.shared_capture.specs.Steps.{after_load, after_write, after_mark, after_open, looked_as, after_fetch, after_take, after_finish}
 use Rattle.shared_capture.specs.Meeting.{MetAs, Met, met_as, front_met}
 use Rattle.shared_capture.specs.Seats.{IsReady, IsSame}
-use Rattle.shared_capture.proofs.Places.{not_not, not_apart, cell_not_phase, mark_not_phase, mark_not_cell, cell_not_mark}
+use Rattle.shared_capture.proofs.Places.{not_apart, cell_not_phase, mark_not_phase, mark_not_cell, cell_not_mark}
 use Rattle.shared_capture.proofs.Places.{cell_inside, mark_inside, cell_one, mark_one, at_end, at_longer, at_last, at_padded}
 use Rattle.shared_capture.proofs.Packed.{zeros_packed}
 use Rattle.shared_capture.proofs.Touched.{touched_at}
@@ -239,7 +240,7 @@ module _ (kind : Kind) (n : ℕ) (ws : List ℕ) (f : FrontView) (b : BackView) 
 
     apart_now : (e : Kind) (x : Bool) → b.current ≡ f.current → (i : ℕ) → take_side e b.current (marked f.marks i) ≡ not (write_side e (not f.current) (marked (cleared e f.marks) i))
     apart_now Zigzag x e i = refl
-    apart_now PingPong x e i = e ∙ sym (not_not f.current)
+    apart_now PingPong x e i = e ∙ sym (not-not f.current)
 
     pub core_open : Core kind n begun (after_open kind t f) b
     core_open = let level = c.ended (c.table.closed closed) in let none : length b.marks ≡ 0 = ap length (c.fresh level.idle) in record {
@@ -266,7 +267,7 @@ module _ (kind : Kind) (n : ℕ) (ws : List ℕ) (f : FrontView) (b : BackView) 
               ap (λ (z : Bool). get_or begun (cell_place n z i) 0)
               (ap (λ (z : Bool). take_side kind z (marked f.marks i)) level.same ∙ sym (ready i l w)) ∙ (same_cell (flag_at f.sides i) i ∙ c.table.live i l);
           apart = λ i l. apart_now kind true level.same i;
-          turned = level.same ∙ sym (not_not f.current);
+          turned = level.same ∙ sym (not-not f.current);
           left = λ k l m. ap (λ (z : Bool). get_or begun (mark_place n (row kind z) k) 0) level.same ∙ (same_mark (row kind f.current) k ∙ c.table.marks k l);
           swapped = λ e k l m. absurd (omega (arith, none));
         };
@@ -463,7 +464,7 @@ module _ (kind : Kind) (n : ℕ) (ws : List ℕ) (f : FrontView) (b : BackView) 
           ended = λ _. record {
             level = o.one_more ∙ sym (length-append b.done (last ∷ []));
             idle = refl;
-            same = ap not o.left.turned ∙ not_not f.current;
+            same = ap not o.left.turned ∙ not-not f.current;
             clean = λ p j l. dirt (not f.current) j ∙ (ap (λ (z : Bool). get_or ws (mark_place n z j) 0) (sym o.left.turned) ∙ o.left.swapped p j l (omega (arith, known.fetched)));
           };
           opened = λ p. absurd (omega (arith, zero_now));

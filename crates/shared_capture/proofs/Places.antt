@@ -8,10 +8,6 @@ use Rattle.packed_marks.specs.Bits.{chunks}
 use Rattle.shared_capture.specs.Rounds.{padded}
 use Rattle.shared_capture.specs.Table.{cell_place, mark_place}
 
-pub not_not : (b : Bool) → not (not b) ≡ b
-not_not true = refl
-not_not false = refl
-
 pub not_apart : (b : Bool) → b ≢ not b
 not_apart true e = absurd (Rattle.std.proofs.lemmas.Bool.true≢false e)
 not_apart false e = absurd (Rattle.std.proofs.lemmas.Bool.true≢false (sym e))

@@ -8,6 +8,7 @@ use Rattle.atomic_table.proofs.Lists.{set_else}
 use Rattle.shared_capture.specs.declared.signal.SignalView.{SignalView}
 use Rattle.shared_capture.specs.declared.signal.SignalView.TheVariants.{Spent, Out, In, Both}
 use Rattle.shared_capture.specs.SignalWord.{last_of, AreStored, Knows, Kept, Sitting, stored_of, loaded_of, stored_next, loaded_next, met, out_part, in_part, paired}
+use Rattle.shared_capture.proofs.Places.{at_end, at_longer}
 use Rattle.shared_capture.proofs.Views.{set_knows, split_knows, join_knows}
 
 -- ---- lists
@@ -17,16 +18,8 @@ last_more [] tick = refl
 last_more (first ∷ []) tick = refl
 last_more (first ∷ second ∷ ticks) tick = last_more (second ∷ ticks) tick
 
-still_at : (ticks more : List ℕ) (i tick : ℕ) → slice_get ticks i ≡ Some tick → slice_get (ticks ++ more) i ≡ Some tick
-still_at [] more i tick e = absurd cc
-still_at (first ∷ ticks) more zero tick e = e
-still_at (first ∷ ticks) more (suc i) tick e = still_at ticks more i tick e
-
 pub at_last : (ticks : List ℕ) (next i tick : ℕ) → slice_get (ticks ++ next ∷ []) i ≡ Some tick → (slice_get ticks i ≡ Some tick) ⊎ (tick ≡ next)
-at_last [] next zero tick e = inr (let same : next ≡ tick = cc in sym same)
-at_last [] next (suc i) tick e = absurd cc
-at_last (first ∷ ticks) next zero tick e = inl e
-at_last (first ∷ ticks) next (suc i) tick e = at_last ticks next i tick e
+at_last ticks next i tick e = ⊎_elim inl (λ t. inr (sym t.1)) (at_end ticks next tick i e)
 
 last_is_one : (ticks : List ℕ) → (last_of ticks ≡ 0) ⊎ ((j : ℕ) × (slice_get ticks j ≡ Some (last_of ticks)))
 last_is_one [] = inl refl
@@ -35,7 +28,7 @@ last_is_one (tick ∷ next ∷ ticks) = ⊎_elim inl (λ t. inr (suc t.0, t.1)) 
 
 -- one more tick may be stored
 stored_more : (stored loaded : List ℕ) (tick : ℕ) → AreStored stored loaded → AreStored (stored ++ tick ∷ []) loaded
-stored_more stored loaded tick are i each e = ⊎_elim inl (λ t. inr (t.0, still_at stored (tick ∷ []) t.0 each t.1)) (are i each e)
+stored_more stored loaded tick are i each e = ⊎_elim inl (λ t. inr (t.0, at_longer stored (tick ∷ []) t.0 each t.1)) (are i each e)
 
 -- the last stored tick may be loaded
 loaded_more : (stored loaded : List ℕ) → AreStored stored loaded → AreStored stored (loaded ++ last_of stored ∷ [])

@@ -15,6 +15,7 @@ use Rattle.shared_capture.specs.declared.view.Round.{Round}
 use Rattle.shared_capture.specs.Rounds.{flag_at, Agree, snapshots_as, shown, shown_as, round}
 use Rattle.shared_capture.specs.States.{FrontState, BackState, snapshots, MetBack, KnowsOpen}
 use Rattle.shared_capture.specs.Joined.{AreFirst, entries, last_round, left_as, content_of, IsJoined}
+use Rattle.std.proofs.lemmas.List.{nil_from_length}
 use Rattle.shared_capture.proofs.Places.{at_last}
 
 -- ## Entries of a round
@@ -42,10 +43,6 @@ entries_from (t ∷ ts) (w ∷ ws) (suc i) e l = entries_from ts ws i (omega (ar
 shown_entry : (t : Bool) (w : ℕ) → taken_of (then_some t w) ≡ shown_as t w
 shown_entry true w = refl
 shown_entry false w = refl
-
-none_long : {A : Type 0} (l : List A) → length l ≡ 0 → l ≡ []
-none_long [] e = refl
-none_long (x ∷ l) e = absurd (omega (arith, e))
 
 pub none_left : {A : Type 0} (l : List A) → ¬ (0 < length l) → l ≡ []
 none_left [] p = refl
@@ -109,7 +106,7 @@ module _ (f : FrontState) (b : BackState) (ok : IsJoined f b) where
   no_left all = go b.working refl
     where
       go : (w : Bool) → b.working ≡ w → left_as w (length b.now.taken) last ≡ []
-      go true e = let l = length_left_as true e in none_long (left_as true (length b.now.taken) last) (omega (arith, l, all e))
+      go true e = let l = length_left_as true e in nil_from_length (left_as true (length b.now.taken) last) (omega (arith, l, all e))
       go false e = refl
 
   pub takes_none : (b.working ≡ true → length b.now.taken ≡ b.cells) → Takes (content_of f b) None (content_of f b)

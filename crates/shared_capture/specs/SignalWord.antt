@@ -12,7 +12,11 @@ use Rattle.shared_capture.specs.declared.signal.SignalView.TheVariants.{Spent, O
 -- one and each load of the other adds a number.
 pub record SignalState : Type 0 where
   pub pair : TableId
-  pub ticks : List ℕ
+  pub numbers : List ℕ
+
+-- one number more was stored, or loaded
+abbrev pub with_number : SignalState → ℕ → SignalState
+with_number seat number = record seat { numbers = seat.numbers ++ number ∷ [] }
 
 -- the last of these, or 0
 abbrev pub last_of : List ℕ → ℕ

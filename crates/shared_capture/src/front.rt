@@ -100,7 +100,7 @@ impl<M: Method> Front<M> {
         self.mark_words(tick)
     }
 
-    /// The same as `mark`, except that the tick needn't be a new one.
+    /// Marks as `mark` does, except that the tick needn't be a new one.
     #[tactic(auto, using(crate::proofs::Touched::length_touched))]
     pub(crate) fn mark_words(&mut self, tick: u64) -> Result<(), Refusal>
         requires tick { 0 < tick }

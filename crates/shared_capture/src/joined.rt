@@ -8,7 +8,7 @@ ghost use Rattle.shared_capture.specs.Joined.{IsJoined, AreFirst, content_of, en
 use crate::back::Back;
 use crate::front::Front;
 use crate::method::Method;
-use crate::pair::{meet, pair};
+use crate::pair::{meet, seat_pair};
 use capture_core::{Capture, Taken, Taker};
 use std::alloc::Global;
 use std::marker::Model;
@@ -86,7 +86,7 @@ impl<M: Method> Capture for Joined<M> {
     ghost after_take = { λ old new answer takes. takes };
 
     fn build(alloc: Global, words: &[u64]) -> Result<Self, Refusal> {
-        let (mut front, mut back) = pair(alloc, Vec::from_slice(alloc, words)?)?;
+        let (mut front, mut back) = seat_pair(alloc, Vec::from_slice(alloc, words)?)?;
         meet(&mut front, &mut back);
         Ok(Joined { front, back })
     }

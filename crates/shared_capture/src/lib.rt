@@ -29,11 +29,8 @@ pub use back::Back;
 pub use front::{Front, accesses_keep};
 pub use joined::Joined;
 pub use method::{Kind, Method, Pong, Zig};
-pub use pair::{meet, ping_pong_pair, zigzag_pair};
-pub use signal::{SignalIn, SignalOut, meet_signal, signal_pair};
+pub use pair::{meet, ping_pong_pair, seat_pair, zigzag_pair};
+pub use signal::{SignalIn, SignalOut, cover_pair, meet_signal, signal_pair};
 // A cover is the signal of the ticks of open images.
-pub use signal::{
-    SignalIn as CoverIn, SignalOut as CoverOut, meet_signal as meet_cover,
-    signal_pair as cover_pair,
-};
+pub use signal::{SignalIn as CoverIn, SignalOut as CoverOut, meet_signal as meet_cover};
 pub use view::{Round, Snapshot};

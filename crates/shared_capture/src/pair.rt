@@ -28,7 +28,7 @@ pub fn zigzag_pair(alloc: Global, words: Vec<u64>) -> Result<(Front<Zig>, Back<Z
     ensures ok { IfOk result (λ pair. IsStart words.items pair.0 pair.1) }
     ensures err { IfErr result (λ refusal. refusal ≡ Refusal.NoMemory) }
 {
-    pair(alloc, words)
+    seat_pair(alloc, words)
 }
 
 /// Makes two seats of the method Ping-Pong at a new table with these words. The front
@@ -38,24 +38,17 @@ pub fn ping_pong_pair(alloc: Global, words: Vec<u64>) -> Result<(Front<Pong>, Ba
     ensures ok { IfOk result (λ pair. IsStart words.items pair.0 pair.1) }
     ensures err { IfErr result (λ refusal. refusal ≡ Refusal.NoMemory) }
 {
-    pair(alloc, words)
+    seat_pair(alloc, words)
 }
 
-/// Makes two seats of a method at a new table with these words.
-pub(crate) fn pair<M: Method>(
+/// Makes two seats of a method at a new table with these words. The front keeps their list.
+pub fn seat_pair<M: Method>(
     alloc: Global,
     words: Vec<u64>,
 ) -> Result<(Front<M>, Back<M>), Refusal>
     requires { All IsWord words.items }
     ensures ok { IfOk result (λ pair. IsStart words.items pair.0 pair.1) }
     ensures err { IfErr result (λ refusal. refusal ≡ Refusal.NoMemory) }
-{
-    Ok(seats(alloc, words)?)
-}
-
-fn seats<M: Method>(alloc: Global, words: Vec<u64>) -> Result<(Front<M>, Back<M>), AllocError>
-    requires { All IsWord words.items }
-    ensures { IfOk result (λ pair. IsStart words.items pair.0 pair.1) }
 {
     let cells = words.len();
     let marks = full_marks(alloc, cells)?;

@@ -5,9 +5,10 @@ ghost use Rattle.std.specs.Prelude.{◌≡◌, ◌+◌, ◌<◌, ◌≤◌, ◌+
 ghost use Rattle.std.specs.Prelude.{IfOk, IfErr};
 ghost use Rattle.std.specs.Arc.{arc_value};
 ghost use Rattle.shared_capture.specs.declared.signal.SignalView.TheVariants.{Spent, Both};
-ghost use Rattle.shared_capture.specs.SignalWord.{SignalState, IsOut, IsIn, IsBoth, AreStored};
-ghost use Rattle.shared_capture.specs.SignalWord.{Kept, stored_of, loaded_of, stored_next};
-ghost use Rattle.shared_capture.specs.SignalWord.{loaded_next, met, out_part, in_part, paired};
+ghost use Rattle.shared_capture.specs.SignalWord.{SignalState, with_number, IsOut, IsIn, IsBoth};
+ghost use Rattle.shared_capture.specs.SignalWord.{AreStored, Kept, stored_of, loaded_of};
+ghost use Rattle.shared_capture.specs.SignalWord.{stored_next, loaded_next, met, out_part, in_part};
+ghost use Rattle.shared_capture.specs.SignalWord.{paired};
 
 use atomic_table::{Join, Play, Seat, Shared, Split, Table, TableRule};
 use std::alloc::{AllocError, Global};
@@ -94,7 +95,7 @@ pub struct SignalOut {
 impl Model for SignalOut {
     ghost Value = { SignalState };
 
-    ghost view = { λ c. record { pair = c.seat.table_id; ticks = stored_of c.seat.me.0 } };
+    ghost view = { λ c. record { pair = c.seat.table_id; numbers = stored_of c.seat.me.0 } };
 
     ghost invariant = { λ c.
         IsOut (arc_value c.table).shared.table_id (stored_of c.seat.me.0) c.seat };
@@ -110,24 +111,16 @@ pub struct SignalIn {
 impl Model for SignalIn {
     ghost Value = { SignalState };
 
-    ghost view = { λ c. record { pair = c.seat.table_id; ticks = loaded_of c.seat.me.0 } };
+    ghost view = { λ c. record { pair = c.seat.table_id; numbers = loaded_of c.seat.me.0 } };
 
     ghost invariant = { λ c.
         IsIn (arc_value c.table).shared.table_id (loaded_of c.seat.me.0) c.seat };
 }
 
 /// Makes two seats at a new word. Nothing was stored in it or loaded from it.
-pub fn signal_pair(alloc: Global) -> Result<(SignalOut, SignalIn), Refusal>
-    ensures ok { IfOk result (λ pair. (pair.0.pair ≡ pair.1.pair)
-        × (pair.0.ticks ≡ []) × (pair.1.ticks ≡ [])) }
-    ensures err { IfErr result (λ refusal. refusal ≡ Refusal.NoMemory) }
-{
-    Ok(seats(alloc)?)
-}
-
-fn seats(alloc: Global) -> Result<(SignalOut, SignalIn), AllocError>
+pub fn signal_pair(alloc: Global) -> Result<(SignalOut, SignalIn), AllocError>
     ensures { IfOk result (λ pair. (pair.0.pair ≡ pair.1.pair)
-        × (pair.0.ticks ≡ []) × (pair.1.ticks ≡ [])) }
+        × (pair.0.numbers ≡ []) × (pair.1.numbers ≡ [])) }
 {
     let (table, mut seat) = Table::of_words(alloc, &[0], &())?;
     let other = parted(&table.shared, &mut seat);
@@ -144,24 +137,33 @@ fn seats(alloc: Global) -> Result<(SignalOut, SignalIn), AllocError>
     ))
 }
 
+/// Makes the two seats of a signal of the ticks of open images.
+pub fn cover_pair(alloc: Global) -> Result<(SignalOut, SignalIn), Refusal>
+    ensures ok { IfOk result (λ pair. (pair.0.pair ≡ pair.1.pair)
+        × (pair.0.numbers ≡ []) × (pair.1.numbers ≡ [])) }
+    ensures err { IfErr result (λ refusal. refusal ≡ Refusal.NoMemory) }
+{
+    Ok(signal_pair(alloc)?)
+}
+
 impl SignalOut {
     /// Stores a number, which is greater than those before it. It makes one store and no load.
-    pub fn publish(&mut self, tick: u64)
-        requires some { 1 ≤ tick }
+    pub fn publish(&mut self, next: u64)
+        requires some { 1 ≤ next }
         requires newer { (i earlier : ℕ)
-            → slice_get self.old.ticks i ≡ Some earlier → earlier < tick }
-        ensures stored { self.new ≡ record self.old { ticks = self.old.ticks ++ tick ∷ [] } }
-        ensures stores { length self.new.ticks ≡ length self.old.ticks + 1 }
+            → slice_get self.old.numbers i ≡ Some earlier → earlier < next }
+        ensures stored { self.new ≡ with_number self.old next }
+        ensures stores { length self.new.numbers ≡ length self.old.numbers + 1 }
     {
-        self.table.shared.store::<Publish>(&mut self.seat, 0, tick);
+        self.table.shared.store::<Publish>(&mut self.seat, 0, next);
     }
 }
 
 impl SignalIn {
     /// Returns the number that was stored last, or 0 if none was. It makes one load.
     pub fn latest(&mut self) -> u64
-        ensures loaded { self.new ≡ record self.old { ticks = self.old.ticks ++ result ∷ [] } }
-        ensures loads { length self.new.ticks ≡ length self.old.ticks + 1 }
+        ensures loaded { self.new ≡ with_number self.old result }
+        ensures loads { length self.new.numbers ≡ length self.old.numbers + 1 }
     {
         self.table.shared.load::<Latest>(&mut self.seat, 0)
     }
@@ -172,7 +174,7 @@ impl SignalIn {
 pub fn meet_signal(out: &mut SignalOut, from: &mut SignalIn)
     requires { out.old.pair ≡ from.old.pair }
     ensures same { (out.new ≡ out.old) × (from.new ≡ from.old) }
-    ensures stored { AreStored out.new.ticks from.new.ticks }
+    ensures stored { AreStored out.new.numbers from.new.numbers }
 {
     meet_seats(&out.table.shared, &mut out.seat, &mut from.seat);
 }

@@ -8,7 +8,6 @@ use shared_capture::{Method, Pong, Zig};
 use std::alloc::Global;
 use std::process::Abort;
 use std::sync::Wait;
-use worker_threads::Seats;
 use workers::{AskChannel, AwaitedReply, Mutator, Open, Reply};
 
 /// How many asks the two sessions send.
@@ -61,7 +60,7 @@ fn check_posts(rt: &(impl Wait + Abort), answers: [AwaitedReply; 6]) {
     is_post_of(rt, sixth, 6, b"tick 6: + =33\n");
 }
 
-fn try_two_sessions<M: Seats>(rt: &(impl Wait + Abort), alloc: Global) {
+fn try_two_sessions<M: Method>(rt: &(impl Wait + Abort), alloc: Global) {
     let (asks, asked) = AskChannel::open(alloc).expect(rt, "a channel");
     let opened = open_files::<M, ModelFile>(rt, alloc, new_files(rt, alloc, 2));
     let mut world = begin(rt, alloc, asked, opened, Held::nothing());

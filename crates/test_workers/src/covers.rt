@@ -13,7 +13,6 @@ use shared_capture::{Method, Pong, Zig};
 use std::alloc::Global;
 use std::process::Abort;
 use std::sync::Wait;
-use worker_threads::Seats;
 use workers::{AskReceiver, Asker, AwaitedReply, Checkpointer, Log, Reply};
 use world_actions::Refusal;
 
@@ -110,7 +109,7 @@ fn check_files<M: Method>(rt: &impl Abort, alloc: Global, world: &Serial<M, File
 }
 
 // Begins workers of a new world whose second segment's file fails at this call.
-fn begin_broken<M: Seats>(
+fn begin_broken<M: Method>(
     rt: &(impl Wait + Abort),
     alloc: Global,
     asks: AskReceiver,
@@ -142,7 +141,7 @@ fn play_behind<M: Method>(
 }
 
 // Plays while this call of the second segment's file fails, if it is made.
-fn try_call<M: Seats>(rt: &(impl Wait + Abort), alloc: Global, call: u64)
+fn try_call<M: Method>(rt: &(impl Wait + Abort), alloc: Global, call: u64)
     requires { 1 ≤ call }
 {
     let (mut asker, asks) = new_session(rt, alloc);
@@ -152,7 +151,7 @@ fn try_call<M: Seats>(rt: &(impl Wait + Abort), alloc: Global, call: u64)
     drop(asker);
 }
 
-fn try_calls<M: Seats>(rt: &(impl Wait + Abort), alloc: Global) {
+fn try_calls<M: Method>(rt: &(impl Wait + Abort), alloc: Global) {
     for call in 1..CALLS + 2 {
         try_call::<M>(rt, alloc, call);
     }

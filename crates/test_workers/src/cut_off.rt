@@ -6,14 +6,14 @@ use crate::worlds::{new_files, stands_in};
 use client_service::serve_batches;
 use crossbeam_channel::unbounded;
 use disk_model::ModelFile;
-use shared_capture::{Pong, Zig};
+use shared_capture::{Method, Pong, Zig};
 use std::alloc::Global;
 use std::io::{self, ErrorKind, Write};
 use std::process::Abort;
 use std::sync::Wait;
 use std::thread::Threads;
 use worker_steps::Gates;
-use worker_threads::{Seats, StoppedWorkers};
+use worker_threads::StoppedWorkers;
 use workers::{AskChannel, Open};
 use world_actions::Refusal;
 
@@ -68,7 +68,7 @@ fn answered(taken: &[u8]) -> u64 {
 }
 
 // The taken bytes are a prefix of the answers, and the files have each answered tick.
-fn check<M: Seats>(
+fn check<M: Method>(
     rt: &impl Abort,
     alloc: Global,
     stopped: &StoppedWorkers<M, ModelFile, Open, Open, Open>,
@@ -83,7 +83,7 @@ fn check<M: Seats>(
     assert!(rt; tick >= answered(taken), "tick {tick} stands");
 }
 
-fn cut_at<M: Seats + Send + 'static, R: Threads + Wait + Abort + Copy + Send + 'static>(
+fn cut_at<M: Method + Send + 'static, R: Threads + Wait + Abort + Copy + Send + 'static>(
     rt: &R,
     alloc: Global,
     room: usize,
@@ -107,7 +107,7 @@ fn cut_at<M: Seats + Send + 'static, R: Threads + Wait + Abort + Copy + Send + '
     drop(stopped);
 }
 
-fn cut_everywhere<M: Seats + Send + 'static, R: Threads + Wait + Abort + Copy + Send + 'static>(
+fn cut_everywhere<M: Method + Send + 'static, R: Threads + Wait + Abort + Copy + Send + 'static>(
     rt: &R,
     alloc: Global,
 ) {

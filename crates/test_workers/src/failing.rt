@@ -12,7 +12,7 @@ use std::process::Abort;
 use std::sync::Wait;
 use std::thread::Threads;
 use worker_steps::Gates;
-use worker_threads::{Seats, StoppedWorkers};
+use worker_threads::StoppedWorkers;
 use workers::Open;
 
 const BATCHES: &[u8] =
@@ -51,7 +51,7 @@ fn broken_files(rt: &impl Abort, alloc: Global, broken: Broken, call: u64) -> Fo
     files
 }
 
-fn is_opened<M: Seats>(alloc: Global, files: FourFiles<BrokenFile>) -> bool {
+fn is_opened<M: Method>(alloc: Global, files: FourFiles<BrokenFile>) -> bool {
     let opened = open_world::<M, BrokenFile>(alloc, files);
     let is_opened = opened.is_ok();
     drop(opened);
@@ -60,7 +60,7 @@ fn is_opened<M: Seats>(alloc: Global, files: FourFiles<BrokenFile>) -> bool {
 
 // Returns the number of the first call on a file that the workers make. The calls before
 // it open the world.
-fn first_call<M: Seats>(rt: &impl Abort, alloc: Global, broken: Broken) -> u64 {
+fn first_call<M: Method>(rt: &impl Abort, alloc: Global, broken: Broken) -> u64 {
     for call in 1..100 {
         if is_opened::<M>(alloc, broken_files(rt, alloc, broken, call)) {
             return call;
@@ -78,7 +78,7 @@ struct Left<M: Method> {
 }
 
 // Runs a session of four batches over files one of which fails at its call of this number.
-fn play_broken<M: Seats + Send + 'static, R: Threads + Wait + Abort + Copy + Send + 'static>(
+fn play_broken<M: Method + Send + 'static, R: Threads + Wait + Abort + Copy + Send + 'static>(
     rt: &R,
     alloc: Global,
     broken: Broken,
@@ -156,7 +156,7 @@ fn is_left<M: Method>(rt: &(impl Wait + Abort), alloc: Global, left: &Left<M>, o
 }
 
 // Runs workers over files one of which fails at its call of this number, and checks the results.
-fn try_broken<M: Seats + Send + 'static, R: Threads + Wait + Abort + Copy + Send + 'static>(
+fn try_broken<M: Method + Send + 'static, R: Threads + Wait + Abort + Copy + Send + 'static>(
     rt: &R,
     alloc: Global,
     broken: Broken,
@@ -189,7 +189,7 @@ fn log_down(acked: u64) -> Outcome {
 }
 
 // Lets each of the calls of each tick fail in turn.
-fn try_log<M: Seats + Send + 'static, R: Threads + Wait + Abort + Copy + Send + 'static>(
+fn try_log<M: Method + Send + 'static, R: Threads + Wait + Abort + Copy + Send + 'static>(
     rt: &R,
     alloc: Global,
 ) {
@@ -216,7 +216,7 @@ const IMAGES_DOWN: Outcome = Outcome {
 };
 
 // Lets each of the first four calls of an image fail in turn.
-fn try_images<M: Seats + Send + 'static, R: Threads + Wait + Abort + Copy + Send + 'static>(
+fn try_images<M: Method + Send + 'static, R: Threads + Wait + Abort + Copy + Send + 'static>(
     rt: &R,
     alloc: Global,
 ) {

@@ -10,7 +10,6 @@ use std::alloc::Global;
 use std::process::Abort;
 use std::sync::Wait;
 use worker_steps::{Gates, Next, Together};
-use worker_threads::Seats;
 use workers::{AskReceiver, Asker, Open};
 
 type World<M> = Together<M, ModelFile, Open, Open, Open>;
@@ -25,7 +24,7 @@ fn found<M: Method>(rt: &impl Abort, alloc: Global, world: &World<M>) -> (u64, u
     (tick, from)
 }
 
-fn begin_steps<M: Seats>(rt: &(impl Wait + Abort), alloc: Global, asks: AskReceiver) -> World<M> {
+fn begin_steps<M: Method>(rt: &(impl Wait + Abort), alloc: Global, asks: AskReceiver) -> World<M> {
     let opened = open_files::<M, ModelFile>(rt, alloc, new_files(rt, alloc, 2));
     let gates = Gates {
         mutator: Open,
@@ -66,7 +65,7 @@ fn next_step(at: u64) -> Next {
 
 // Plays a batch at each `every`th of the first 200 steps. Returns the tick and the image's tick
 // that recovery finds at the end.
-fn try_order<M: Seats>(rt: &(impl Wait + Abort), alloc: Global, every: u64) -> (u64, u64)
+fn try_order<M: Method>(rt: &(impl Wait + Abort), alloc: Global, every: u64) -> (u64, u64)
     requires { 1 ≤ every }
 {
     let (mut asker, asks) = new_session(rt, alloc);

@@ -16,7 +16,6 @@ use std::thread::{self, JoinHandle, Threads};
 use std::time::Clock;
 use transports::Listener;
 use worker_steps::Opened;
-use worker_threads::Seats;
 use world_actions::Refusal;
 use world_folder::{Checks, Ending, OnLoss, WorldReport};
 use world_server::{Every, Frontend, Line, Losses, serve_world};
@@ -104,7 +103,7 @@ fn keep(rt: &impl Abort, lines: &mut Vec<Line>, line: Line)
 // Serves a new world of two cells until two ticks were played. Checks what is printed, that clients
 // were let in, and which world was recovered.
 fn serve_two_ticks<
-    M: Seats + Send + 'static,
+    M: Method + Send + 'static,
     R: Threads + Wait + Clock + Abort + Copy + Send + 'static,
 >(rt: &R, alloc: Global, listener: Listener, run: Run) {
     let (to, heard) = unbounded(alloc).expect(rt, "a channel");
@@ -159,7 +158,7 @@ fn serve_two_ticks<
 }
 
 fn start_server<
-    M: Seats + Send + 'static,
+    M: Method + Send + 'static,
     R: Threads + Wait + Clock + Abort + Copy + Send + 'static,
 >(rt: &R, alloc: Global, listener: Listener, run: Run) -> JoinHandle<()> {
     let here = *rt;
@@ -172,7 +171,7 @@ fn start_server<
 
 // Serves clients that come one after the other. Each writes its input, and has to get its text.
 fn try_served<
-    M: Seats + Send + 'static,
+    M: Method + Send + 'static,
     R: Net<Listener = TcpListener, Stream = TcpStream>
         + Threads
         + Wait

@@ -13,14 +13,13 @@ use shared_capture::{Method, Pong, Zig, signal_pair};
 use std::alloc::Global;
 use std::process::Abort;
 use std::sync::Wait;
-use worker_threads::Seats;
 use workers::{AskReceiver, Asker, ItemReceiver, Mutator, Open, Reply, open};
 use world_actions::Refusal;
 use world_ticks::TICK_MAX;
 
 // A mutator after so many ticks, which takes these asks and opens no round, and the end
 // that pops its items.
-fn mutator_at<M: Seats>(
+fn mutator_at<M: Method>(
     rt: &(impl Wait + Abort),
     alloc: Global,
     asks: AskReceiver,
@@ -80,7 +79,7 @@ fn fill_segment<M: Method>(
     }
 }
 
-fn try_last_tick<M: Seats>(rt: &(impl Wait + Abort), alloc: Global) {
+fn try_last_tick<M: Method>(rt: &(impl Wait + Abort), alloc: Global) {
     let (mut asker, asks) = new_session(rt, alloc);
     let (mut mutator, from) = mutator_at::<M>(rt, alloc, asks, TICK_MAX);
     is_refused(rt, alloc, &mut asker, &mut mutator, Refusal::TicksEnded);
@@ -89,7 +88,7 @@ fn try_last_tick<M: Seats>(rt: &(impl Wait + Abort), alloc: Global) {
     drop(asker);
 }
 
-fn try_full_segment<M: Seats>(rt: &(impl Wait + Abort), alloc: Global) {
+fn try_full_segment<M: Method>(rt: &(impl Wait + Abort), alloc: Global) {
     let (mut asker, asks) = new_session(rt, alloc);
     let (mut mutator, mut from) = mutator_at::<M>(rt, alloc, asks, 0);
     fill_segment(rt, alloc, &mut asker, &mut mutator, &mut from);
@@ -101,7 +100,7 @@ fn try_full_segment<M: Seats>(rt: &(impl Wait + Abort), alloc: Global) {
 
 // Nobody pops any more, so the push of the tick is refused: its session gets no answer, and no
 // other batch is run.
-fn try_refused_push<M: Seats>(rt: &(impl Wait + Abort), alloc: Global) {
+fn try_refused_push<M: Method>(rt: &(impl Wait + Abort), alloc: Global) {
     let (mut asker, asks) = new_session(rt, alloc);
     let (mut mutator, from) = mutator_at::<M>(rt, alloc, asks, 0);
     drop(from);

@@ -13,7 +13,7 @@ use std::sync::atomic::{AtomicU64, Ordering};
 use std::sync::{Arc, Wait};
 use std::thread::Threads;
 use worker_steps::Gates;
-use worker_threads::{Seats, StoppedWorkers, stop};
+use worker_threads::{StoppedWorkers, stop};
 use workers::AskChannel;
 use world_actions::Refusal;
 
@@ -79,7 +79,7 @@ fn held_until(rt: &impl Abort, answered: &Arc<AtomicU64, Global>) -> Gates<Held,
 }
 
 // Plays on a new world of two cells. An image of it is due after each tick.
-fn play_round<M: Seats + Send + 'static, R: Threads + Wait + Abort + Copy + Send + 'static>(
+fn play_round<M: Method + Send + 'static, R: Threads + Wait + Abort + Copy + Send + 'static>(
     rt: &R,
     alloc: Global,
 ) -> Left<M> {
@@ -133,7 +133,7 @@ fn check_left<M: Method>(rt: &(impl Wait + Abort), alloc: Global, left: &Left<M>
     is_page(rt, &left.page, ANSWERS);
 }
 
-fn try_open_round<M: Seats + Send + 'static, R: Threads + Wait + Abort + Copy + Send + 'static>(
+fn try_open_round<M: Method + Send + 'static, R: Threads + Wait + Abort + Copy + Send + 'static>(
     rt: &R,
     alloc: Global,
 ) {

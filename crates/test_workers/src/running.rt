@@ -10,14 +10,14 @@ use std::process::Abort;
 use std::sync::Wait;
 use std::thread::Threads;
 use worker_steps::Gates;
-use worker_threads::{Seats, StoppedWorkers, Workers, meet_stopped, start, stop};
+use worker_threads::{StoppedWorkers, Workers, meet_stopped, start, stop};
 use workers::{AskChannel, Gate, Spins};
 use world_actions::Refusal;
 
 /// Starts workers on the world in these files. A round is due after each `every` ticks.
 pub fn begin<
     R: Threads + Wait + Abort + Copy + Send + 'static,
-    M: Seats + Send + 'static,
+    M: Method + Send + 'static,
     D: Disk + Drop + Send + 'static,
     A: Gate + Drop + Send + 'static,
     B: Gate + Drop + Send + 'static,

@@ -18,7 +18,6 @@ use std::process::Abort;
 use std::sync::atomic::{AtomicU64, Ordering};
 use std::sync::{Arc, Wait};
 use worker_steps::Opened;
-use worker_threads::Seats;
 use workers::{
     AskChannel, AskReceiver, Asker, AwaitedReply, Checkpointer, ItemReceiver, ItemSender,
     LogWriter, Mutator, Open, Reply, ReplySlot, open,
@@ -44,7 +43,7 @@ struct Signals {
 }
 
 fn new_signals(rt: &impl Abort, alloc: Global) -> Signals
-    ensures { result.reported_down.ticks ≡ [] }
+    ensures { result.reported_down.numbers ≡ [] }
 {
     let (bell, rung) = bounded(alloc, 1).expect(rt, "a channel");
     let (reported_down, heard) = signal_pair(alloc).expect(rt, "a word");
@@ -70,7 +69,7 @@ fn new_channel(rt: &(impl Wait + Abort), alloc: Global, ended: u64) -> Channel
     ensures to { result.to.items ≡ Start ended ∷ [] }
     ensures pushes { result.to.refused ≡ false }
     ensures from { result.from.items ≡ Start ended ∷ [] }
-    ensures out { result.out.ticks ≡ [] }
+    ensures out { result.out.numbers ≡ [] }
 {
     let (out, reported) = signal_pair(alloc).expect(rt, "a word");
     let (to, from) = open(rt, alloc, ended).expect(rt, "a channel");
@@ -90,8 +89,7 @@ pub fn begin<M: Method, D: Disk + Drop>(
     opened: Opened<M, D>,
     held: Held,
 ) -> Serial<M, D>
-    requires { IsWhole D.honest D.content opened.front opened.back opened.images
-        opened.log opened.ended }
+    requires { IsWhole D.Disk opened }
     ensures rest { IsAtRest result.log_writer }
     ensures takes { MayTake result.checkpointer }
 {
@@ -109,13 +107,12 @@ fn joined<M: Method, D: Disk + Drop>(
     signals: Signals,
     channel: Channel,
 ) -> Serial<M, D>
-    requires whole { IsWhole D.honest D.content opened.front opened.back opened.images
-        opened.log opened.ended }
+    requires whole { IsWhole D.Disk opened }
     requires to { channel.to.items ≡ Start opened.ended ∷ [] }
     requires pushes { channel.to.refused ≡ false }
     requires from { channel.from.items ≡ Start opened.ended ∷ [] }
-    requires out { channel.out.ticks ≡ [] }
-    requires unreported { signals.reported_down.ticks ≡ [] }
+    requires out { channel.out.numbers ≡ [] }
+    requires unreported { signals.reported_down.numbers ≡ [] }
     ensures rest { IsAtRest result.log_writer }
     ensures takes { MayTake result.checkpointer }
 {
@@ -231,7 +228,7 @@ fn is_stuck<M: Method>(
 }
 
 // Begins the workers of a new world, whose checkpointer is held.
-fn begin_held<M: Seats>(
+fn begin_held<M: Method>(
     rt: &(impl Wait + Abort),
     alloc: Global,
     asks: AskReceiver,
@@ -264,7 +261,7 @@ fn play_round<M: Method>(
     same(rt, "what stands", found, (2, 0, 2));
 }
 
-fn try_serial_round<M: Seats>(rt: &(impl Wait + Abort), alloc: Global) {
+fn try_serial_round<M: Method>(rt: &(impl Wait + Abort), alloc: Global) {
     let answered = Arc::new(alloc, AtomicU64::new(0)).expect(rt, "a count");
     let (mut asker, asks) = new_session(rt, alloc);
     let mut world = begin_held::<M>(rt, alloc, asks, &answered);

@@ -14,7 +14,7 @@ use std::process::Abort;
 use std::sync::Wait;
 use std::thread::{self, JoinHandle, Threads};
 use worker_steps::Gates;
-use worker_threads::{Seats, StoppedWorkers};
+use worker_threads::StoppedWorkers;
 use workers::{AskChannel, Asker, Cut};
 use world_actions::{Action, Refusal};
 
@@ -161,7 +161,7 @@ fn play_sessions<R: Threads + Wait + Abort + Copy + Send + 'static>(
 
 // Runs workers, which make so many steps, in a new world of two cells, and brings their ends
 // together. Also returns how many batches were answered by a tick.
-fn run<M: Seats + Send + 'static, R: Threads + Wait + Abort + Copy + Send + 'static>(
+fn run<M: Method + Send + 'static, R: Threads + Wait + Abort + Copy + Send + 'static>(
     rt: &R,
     alloc: Global,
     limits: Limits,
@@ -220,7 +220,7 @@ fn has_first_image<M: Method>(stopped: &StoppedWorkers<M, ModelFile, Cut, Cut, C
 
 // Runs workers whose checkpointer makes so many steps, and checks what they leave. Returns true if
 // no image was opened.
-fn try_steps<M: Seats + Send + 'static, R: Threads + Wait + Abort + Copy + Send + 'static>(
+fn try_steps<M: Method + Send + 'static, R: Threads + Wait + Abort + Copy + Send + 'static>(
     rt: &R,
     alloc: Global,
     steps: Option<u64>,
@@ -239,7 +239,7 @@ fn try_steps<M: Seats + Send + 'static, R: Threads + Wait + Abort + Copy + Send 
 
 // Leaves a round open after each number of its steps, and counts the runs in which no
 // image was opened.
-fn count_open<M: Seats + Send + 'static, R: Threads + Wait + Abort + Copy + Send + 'static>(
+fn count_open<M: Method + Send + 'static, R: Threads + Wait + Abort + Copy + Send + 'static>(
     rt: &R,
     alloc: Global,
 ) -> u64 {
@@ -253,7 +253,7 @@ fn count_open<M: Seats + Send + 'static, R: Threads + Wait + Abort + Copy + Send
 
 // Tries rounds that are run to their end, and rounds that are left open after each
 // number of their steps.
-fn try_ends<M: Seats + Send + 'static, R: Threads + Wait + Abort + Copy + Send + 'static>(
+fn try_ends<M: Method + Send + 'static, R: Threads + Wait + Abort + Copy + Send + 'static>(
     rt: &R,
     alloc: Global,
 ) {
@@ -296,7 +296,7 @@ fn check_held<M: Method>(
 }
 
 // Runs workers that make so many steps, and returns how many batches were answered by a tick.
-fn try_limits<M: Seats + Send + 'static, R: Threads + Wait + Abort + Copy + Send + 'static>(
+fn try_limits<M: Method + Send + 'static, R: Threads + Wait + Abort + Copy + Send + 'static>(
     rt: &R,
     alloc: Global,
     limits: Limits,
@@ -308,7 +308,7 @@ fn try_limits<M: Seats + Send + 'static, R: Threads + Wait + Abort + Copy + Send
 }
 
 // Holds these workers after each number of steps. Before the first step no batch is answered.
-fn try_held<M: Seats + Send + 'static, R: Threads + Wait + Abort + Copy + Send + 'static>(
+fn try_held<M: Method + Send + 'static, R: Threads + Wait + Abort + Copy + Send + 'static>(
     rt: &R,
     alloc: Global,
     stopped: Stopped,
@@ -320,7 +320,7 @@ fn try_held<M: Seats + Send + 'static, R: Threads + Wait + Abort + Copy + Send +
     }
 }
 
-fn try_all_held<M: Seats + Send + 'static, R: Threads + Wait + Abort + Copy + Send + 'static>(
+fn try_all_held<M: Method + Send + 'static, R: Threads + Wait + Abort + Copy + Send + 'static>(
     rt: &R,
     alloc: Global,
 ) {

@@ -7,12 +7,13 @@ use client_service::{Door, Unserved};
 use crossbeam_channel::Sender;
 use disk_model::{Disk, FourFiles, Fused, ModelFile};
 use recovery::recover;
+use shared_capture::Method;
 use std::alloc::{AllocError, Global};
 use std::io;
 use std::process::Abort;
 use std::sync::Wait;
 use worker_steps::Opened;
-use worker_threads::{Acked, Seats, TickWatch, Watch, start_world};
+use worker_threads::{Acked, TickWatch, Watch, start_world};
 use workers::{ImageWriter, Log};
 use world_actions::Refusal;
 use world_start::{fresh_files, recover_world};
@@ -143,12 +144,12 @@ pub fn fused_files(rt: &impl Abort, alloc: Global) -> FourFiles<Fused<ModelFile>
 
 /// The world in these files, recovered and started for its workers, and the tick of the image that
 /// it was built from.
-pub fn open_world<M: Seats, D: Disk + Drop>(
+pub fn open_world<M: Method, D: Disk + Drop>(
     alloc: Global,
     files: FourFiles<D>,
 ) -> Result<(Opened<M, D>, u64), (FourFiles<D>, Refusal)>
     ensures { IfOk result (λ made.
-        IsWhole D.honest D.content made.0.front made.0.back made.0.images made.0.log made.0.ended) }
+        IsWhole D.Disk made.0) }
 {
     let begun = recover_world::<PlainCopy, D>(alloc, files)?;
     let from = begun.from;
@@ -157,13 +158,12 @@ pub fn open_world<M: Seats, D: Disk + Drop>(
 }
 
 /// The world in these files, for its workers.
-pub fn open_files<M: Seats, D: Disk + Drop>(
+pub fn open_files<M: Method, D: Disk + Drop>(
     rt: &impl Abort,
     alloc: Global,
     files: FourFiles<D>,
 ) -> Opened<M, D>
-    ensures { IsWhole D.honest D.content result.front result.back result.images
-        result.log result.ended }
+    ensures { IsWhole D.Disk result }
 {
     match open_world::<M, D>(alloc, files) {
         Ok((opened, _)) => opened,

@@ -7,11 +7,12 @@ use client_service::Remote;
 use disk_model::{FourFiles, Fused, ModelFile};
 use recovery::recover;
 use sessions::World;
+use shared_capture::Method;
 use std::alloc::Global;
 use std::sync::Wait;
 use std::thread::Threads;
 use trial_kit::{FAILING_FILES, FailureTally};
-use worker_threads::{Seats, StoppedWorkers, Workers, meet_stopped, stop};
+use worker_threads::{StoppedWorkers, Workers, meet_stopped, stop};
 use workers::{AskChannel, Open};
 use world_actions::Refusal;
 use world_start::fresh_files;
@@ -28,7 +29,7 @@ const CALLS: u64 = 1_000;
 type File = Fused<ModelFile>;
 
 /// Lets each call of each file fail in turn.
-pub fn fail_calls<R: Threads + Wait + Copy + Send + 'static, M: Seats + Send + 'static>(
+pub fn fail_calls<R: Threads + Wait + Copy + Send + 'static, M: Method + Send + 'static>(
     rt: &R,
     alloc: Global,
 ) -> Result<FailureTally, Refusal> {
@@ -45,7 +46,7 @@ pub fn fail_calls<R: Threads + Wait + Copy + Send + 'static, M: Seats + Send + '
 }
 
 // Plays while the call of this number of a file fails. Returns true if there was such a call.
-fn fail_call<R: Threads + Wait + Copy + Send + 'static, M: Seats + Send + 'static>(
+fn fail_call<R: Threads + Wait + Copy + Send + 'static, M: Method + Send + 'static>(
     rt: &R,
     alloc: Global,
     file: u32,
@@ -68,7 +69,7 @@ fn fail_call<R: Threads + Wait + Copy + Send + 'static, M: Seats + Send + 'stati
 }
 
 // Plays, and returns true if a call had failed.
-fn play<R: Threads + Wait + Copy, M: Seats>(
+fn play<R: Threads + Wait + Copy, M: Method>(
     rt: &R,
     alloc: Global,
     workers: Workers<M, File, Open, Open, Open>,
@@ -92,7 +93,7 @@ fn judge_opening(alloc: Global, files: FourFiles<File>, failures: &mut FailureTa
 }
 
 // Judges the files that the workers left. Returns true if a call had failed.
-fn judge_end<M: Seats>(
+fn judge_end<M: Method>(
     alloc: Global,
     stopped: &StoppedWorkers<M, File, Open, Open, Open>,
     answered: Result<u64, Refusal>,

@@ -21,14 +21,13 @@ mod ticks;
 
 use failing::fail_calls;
 use power::{CUTS, cut_power};
-use shared_capture::{Pong, Zig};
+use shared_capture::{Method, Pong, Zig};
 use std::fs::{File, Files};
 use std::process::ExitCode;
 use std::sync::Wait;
 use std::thread::Threads;
 use std::time::Clock;
 use trial_kit::{CutTally, FailureTally, exit_code_of};
-use worker_threads::Seats;
 use world_actions::Refusal;
 use world_folder::create;
 
@@ -70,7 +69,7 @@ fn try_method<
         + Copy
         + Send
         + 'static,
-    M: Seats + Send + 'static,
+    M: Method + Send + 'static,
 >(rt: &R, method: &str, seed: u64) -> Result<bool, Refusal> {
     let tally = cut_power::<R, M>(rt, FOLDER, seed)?;
     let is_kept = report_cuts(rt, method, tally)?;

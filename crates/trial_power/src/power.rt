@@ -7,6 +7,7 @@ use crate::ticks::Ticks;
 use disk_model::FourFiles;
 use file_disk::FileDisk;
 use recovery::{Recovered, recover};
+use shared_capture::Method;
 use std::alloc::Global;
 use std::fs::{File, Files};
 use std::sync::atomic::{AtomicU64, Ordering};
@@ -14,7 +15,6 @@ use std::sync::{Arc, Wait};
 use std::thread::Threads;
 use std::time;
 use trial_kit::{CutTally, Random};
-use worker_threads::Seats;
 use world_actions::Refusal;
 use world_folder::open_existing;
 
@@ -33,7 +33,7 @@ pub fn cut_power<
         + Copy
         + Send
         + 'static,
-    M: Seats + Send + 'static,
+    M: Method + Send + 'static,
 >(rt: &R, folder: &str, seed: u64) -> Result<CutTally, Refusal> {
     let alloc = rt.alloc();
     let mut files = open_existing(rt, folder).map_err(|_: _| Refusal::Device)?;
@@ -61,7 +61,7 @@ fn read_left(alloc: Global, files: &mut FourFiles<FileDisk>) -> Result<Left, Ref
 }
 
 // Plays over these files, whose calls are recorded.
-fn play<R: Threads + Wait + Copy + Send + 'static, M: Seats + Send + 'static>(
+fn play<R: Threads + Wait + Copy + Send + 'static, M: Method + Send + 'static>(
     rt: &R,
     alloc: Global,
     files: FourFiles<FileDisk>,
@@ -83,7 +83,7 @@ fn stands_in(alloc: Global, bytes: &FourFiles<Vec<u8>>) -> Result<Recovered, Ref
 }
 
 // Cuts the power of a run. It is an error if a file failed, or if a batch wasn't answered.
-fn cut_all<M: Seats>(
+fn cut_all<M: Method>(
     alloc: Global,
     served: &Served<M>,
     left: Left,
@@ -114,7 +114,7 @@ fn replays(alloc: Global, bytes: FourFiles<Vec<u8>>) -> Result<FourFiles<Replay>
 }
 
 // Tries power cuts at moments of a run that was played to its end.
-fn look_at<M: Seats>(
+fn look_at<M: Method>(
     alloc: Global,
     served: &Served<M>,
     files: FourFiles<Replay>,
@@ -128,7 +128,7 @@ fn look_at<M: Seats>(
 }
 
 // The calls of the files of a run, if there was memory for all.
-fn calls_of<M: Seats>(served: &Served<M>) -> Option<Calls<'_>> {
+fn calls_of<M: Method>(served: &Served<M>) -> Option<Calls<'_>> {
     let images = served.stopped.checkpointer.images();
     let log = served.stopped.log_writer.log();
     Some(Calls {
@@ -140,7 +140,7 @@ fn calls_of<M: Seats>(served: &Served<M>) -> Option<Calls<'_>> {
 }
 
 // True if no file failed.
-fn is_up<M: Seats>(served: &Served<M>) -> bool {
+fn is_up<M: Method>(served: &Served<M>) -> bool {
     !served.stopped.checkpointer.is_down() && !served.stopped.log_writer.is_down()
 }
 

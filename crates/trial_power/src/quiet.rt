@@ -39,8 +39,7 @@ pub fn start_quiet<
     opened: Opened<M, D>,
     every: u32,
 ) -> Result<(Workers<M, D, Open, Open, Open>, AskChannel), Refusal>
-    requires { IsWhole D.honest D.content opened.front opened.back opened.images
-        opened.log opened.ended }
+    requires { IsWhole D.Disk opened }
 {
     let gates = Gates {
         mutator: Open,

@@ -3,10 +3,11 @@ use crate::player::{Answered, play};
 use crate::quiet::start_quiet;
 use crate::recorded::{Clock, Recorded};
 use disk_model::FourFiles;
+use shared_capture::Method;
 use std::alloc::Global;
 use std::sync::Wait;
 use std::thread::{self, JoinHandle, Threads};
-use worker_threads::{Seats, StoppedWorkers, Workers, meet_stopped, stop};
+use worker_threads::{StoppedWorkers, Workers, meet_stopped, stop};
 use workers::{AskChannel, Open};
 use world_actions::Refusal;
 
@@ -23,13 +24,13 @@ type Answers = Result<Vec<Answered>, Refusal>;
 
 /// The results of a run: the workers, and the answers of each player.
 #[derive(Drop)]
-pub struct Served<M: Seats> {
+pub struct Served<M: Method> {
     pub stopped: StoppedWorkers<M, Recorded, Open, Open, Open>,
     pub answers: Vec<Vec<Answered>>,
 }
 
 /// Opens the world in these files for workers, and lets the players play it.
-pub fn serve<R: Threads + Wait + Copy + Send + 'static, M: Seats + Send + 'static>(
+pub fn serve<R: Threads + Wait + Copy + Send + 'static, M: Method + Send + 'static>(
     rt: &R,
     alloc: Global,
     files: FourFiles<Recorded>,
@@ -45,7 +46,7 @@ pub fn serve<R: Threads + Wait + Copy + Send + 'static, M: Seats + Send + 'stati
 }
 
 // Lets the players play, and waits until all are over.
-fn let_play<R: Threads + Wait + Copy + Send + 'static, M: Seats>(
+fn let_play<R: Threads + Wait + Copy + Send + 'static, M: Method>(
     rt: &R,
     alloc: Global,
     workers: Workers<M, Recorded, Open, Open, Open>,

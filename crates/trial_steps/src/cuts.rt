@@ -10,7 +10,7 @@ use std::alloc::Global;
 use std::sync::Wait;
 use std::thread::Threads;
 use worker_steps::Gates;
-use worker_threads::{Seats, StoppedWorkers, stop_after};
+use worker_threads::{StoppedWorkers, stop_after};
 use workers::{AskChannel, Cut};
 use world_actions::Refusal;
 
@@ -48,7 +48,7 @@ struct Played {
 
 /// Holds the three workers of a world at random places in their threads. Each run begins from
 /// what a crash left.
-pub fn try_cuts<R: Threads + Wait + Copy + Send + 'static, M: Seats + Send + 'static>(
+pub fn try_cuts<R: Threads + Wait + Copy + Send + 'static, M: Method + Send + 'static>(
     rt: &R,
     trial: &mut Trial,
 ) -> Result<(), Refusal> {
@@ -60,7 +60,7 @@ pub fn try_cuts<R: Threads + Wait + Copy + Send + 'static, M: Seats + Send + 'st
     Ok(())
 }
 
-fn cut_once<R: Threads + Wait + Copy + Send + 'static, M: Seats + Send + 'static>(
+fn cut_once<R: Threads + Wait + Copy + Send + 'static, M: Method + Send + 'static>(
     rt: &R,
     trial: &mut Trial,
     played: &mut Played,

@@ -28,13 +28,12 @@ mod world;
 
 use cuts::{CUTS, try_cuts};
 use runs::{ALL_STEPS, try_steps};
-use shared_capture::{Pong, Zig};
+use shared_capture::{Method, Pong, Zig};
 use std::process::ExitCode;
 use std::sync::Wait;
 use std::thread::Threads;
 use trial::Trial;
 use trial_kit::exit_code_of;
-use worker_threads::Seats;
 use world_actions::Refusal;
 
 fn main(rt: HostRuntime) -> ExitCode {
@@ -50,7 +49,7 @@ fn try_all<R: Threads + Wait + Print + Eprint + AllocGlobal + Copy + Send + 'sta
 
 fn try_method<
     R: Threads + Wait + Print + Eprint + AllocGlobal + Copy + Send + 'static,
-    M: Seats + Send + 'static,
+    M: Method + Send + 'static,
 >(rt: &R, method: &str, seed: u64) -> Result<bool, Refusal> {
     let mut trial = Trial::new(rt.alloc(), seed)?;
     try_with::<R, M>(rt, method, &mut trial)
@@ -58,7 +57,7 @@ fn try_method<
 
 fn try_with<
     R: Threads + Wait + Print + Eprint + AllocGlobal + Copy + Send + 'static,
-    M: Seats + Send + 'static,
+    M: Method + Send + 'static,
 >(rt: &R, method: &str, trial: &mut Trial) -> Result<bool, Refusal> {
     let ends = try_steps::<R, M>(rt, trial);
     let were_right = report(rt, method, ALL_STEPS, "steps", ends, trial.tally.broken())?;

@@ -9,7 +9,6 @@ use action_log::SEGMENT_TICKS;
 use disk_model::FourFiles;
 use shared_capture::Method;
 use std::sync::Wait;
-use worker_threads::Seats;
 use world_actions::Refusal;
 use world_ticks::TICK_MAX;
 
@@ -42,7 +41,7 @@ const ODDS: Odds = Odds {
 };
 
 /// Makes random steps in worlds of all sizes, and near the last tick. Then it fills a segment.
-pub fn try_steps<R: Wait, M: Seats>(rt: &R, trial: &mut Trial) -> Result<(), Refusal> {
+pub fn try_steps<R: Wait, M: Method>(rt: &R, trial: &mut Trial) -> Result<(), Refusal> {
     for _ in 0..WORLDS {
         for cells in SIZES {
             try_world::<R, M>(rt, trial, cells, 0, STEPS)?;
@@ -55,7 +54,7 @@ pub fn try_steps<R: Wait, M: Seats>(rt: &R, trial: &mut Trial) -> Result<(), Ref
 
 // Makes so many random steps in a new world. Each run begins from what the crash of
 // the last one left.
-fn try_world<R: Wait, M: Seats>(
+fn try_world<R: Wait, M: Method>(
     rt: &R,
     trial: &mut Trial,
     cells: u32,
@@ -74,7 +73,7 @@ fn try_world<R: Wait, M: Seats>(
 }
 
 // Opens the world that a crash left, makes random steps, and crashes.
-fn run_once<R: Wait, M: Seats>(rt: &R, trial: &mut Trial, rest: &mut u64) -> Result<(), Refusal> {
+fn run_once<R: Wait, M: Method>(rt: &R, trial: &mut Trial, rest: &mut u64) -> Result<(), Refusal> {
     let files = trial.files()?;
     let (sessions, asked) = new_sessions(trial.alloc, SESSIONS)?;
     let (gates, every) = (trial.gates(), trial.every());
@@ -136,7 +135,7 @@ fn make_steps<R: Wait, M: Method>(
 }
 
 // Plays as many ticks as a segment takes, without a round. The next batch is refused.
-fn try_segment<R: Wait, M: Seats>(rt: &R, trial: &mut Trial) -> Result<(), Refusal> {
+fn try_segment<R: Wait, M: Method>(rt: &R, trial: &mut Trial) -> Result<(), Refusal> {
     trial.begin_world(1, 0, Odds::NONE)?;
     trial.draft.fill_small();
     let files = trial.files()?;

@@ -7,7 +7,6 @@ use shared_capture::Method;
 use std::alloc::Global;
 use std::sync::Wait;
 use worker_steps::{Gates, Next, Together};
-use worker_threads::Seats;
 use workers::{AskReceiver, Checkpointer, LogWriter};
 use world_actions::Refusal;
 
@@ -25,7 +24,7 @@ pub struct World<M: Method> {
     workers: Together<M, Flaky, Hold, Hold, Hold>,
 }
 
-impl<M: Seats> World<M> {
+impl<M: Method> World<M> {
     /// Opens the world of these files, and begins its workers. They take these asks.
     pub fn open<R: Wait>(
         rt: &R,

@@ -32,9 +32,12 @@ use Rattle.workers.specs.Imaging as imaging
 use Rattle.workers.specs.Imaging.{images_after, AreInStep, ImagesStand, StandAfter}
 use Rattle.image_files.specs.Progress.{newest_tick}
 use Rattle.workers.proofs.Numbers.{go_snoc}
-use Rattle.workers.proofs.Loggings.{records_append}
+use Rattle.std.proofs.lemmas.Grind.{flat_map-append}
+use Rattle.workers.specs.Items.{record_of}
+use Rattle.workers.proofs.Imagings.{is_idle}
 use Rattle.worker_steps.specs.Stopped.{BeginAt}
 use Rattle.worker_steps.proofs.Parts.{one_or_none, images_with, IsPlayed, IsTaken, IsLogged}
+use Rattle.disk_model.specs.declared.disk.Disk.{Ghosts}
 use Rattle.worker_steps.proofs.Playing.{opened_by, begun_by}
 
 -- ---- the mutator
@@ -116,19 +119,6 @@ newest_after_rounds : (images : Images) (done : List Snapshot) → (after : Imag
 newest_after_rounds images [] = (images, refl)
 newest_after_rounds images (s ∷ done) = newest_after_rounds (opened_by s images) done
 
-is_idle : (phase : Phase) → (phase ≡ phases.Idle) ⊎ (phase ≡ phases.Idle → ⊥)
-is_idle phases.Idle = inl refl
-is_idle phases.Closing = inr (λ e. cc e)
-is_idle phases.ClosingSync = inr (λ e. cc e)
-is_idle phases.Header = inr (λ e. cc e)
-is_idle phases.Taking = inr (λ e. cc e)
-is_idle phases.Reading = inr (λ e. cc e)
-is_idle phases.Writing = inr (λ e. cc e)
-is_idle phases.BodySync = inr (λ e. cc e)
-is_idle phases.Opening = inr (λ e. cc e)
-is_idle phases.OpeningSync = inr (λ e. cc e)
-is_idle phases.Down = inr (λ e. cc e)
-
 -- the target of a round that the keeper hasn't begun is as it was before the round
 found_are : (cells : ℕ) (now : Snapshot) (images : Images) (image_a image_b : List ℕ → Type 0) → images.round ≡ None
     → ImagesAre cells images image_a image_b → ImagesAre cells (begun_by now images) image_a image_b
@@ -144,18 +134,18 @@ pub record AreImages (cells : ℕ) (first : Images) (done : List Snapshot) (now 
   pub left : ImagesAre cells images image_a image_b
   pub tick : newest ≡ images.tick
 
-module _ {D : Type 0} (file : D → List ℕ) (leaves : D → List ℕ → Type 0) (first : Images) (writer : ImageWriter D) (back : BackState)
-    (left : (images : ImageFiles) → ImagesStand file leaves writer images → ImageFilesAre writer.keeper.cells images (leaves writer.image_a) (leaves writer.image_b))
-    (newest : (images : ImageFiles) → ImagesStand file leaves writer images → writer.keeper.newest ≡ newest_in images)
-    (idle : (images : ImageFiles) → ImagesStand file leaves writer images → writer.keeper.phase ≡ phases.Idle → round_in images ≡ None) where
+module _ {D : Type 0} (disk : Ghosts D) (first : Images) (writer : ImageWriter D) (back : BackState)
+    (left : (images : ImageFiles) → ImagesStand disk writer images → ImageFilesAre writer.keeper.cells images (disk.may_leave writer.image_a) (disk.may_leave writer.image_b))
+    (newest : (images : ImageFiles) → ImagesStand disk writer images → writer.keeper.newest ≡ newest_in images)
+    (idle : (images : ImageFiles) → ImagesStand disk writer images → writer.keeper.phase ≡ phases.Idle → round_in images ≡ None) where
   abbrev Ends : Type 0
-  Ends = AreImages writer.keeper.cells first back.done (now_in back.working back.now) (newest_tick writer.keeper.newest) (leaves writer.image_a) (leaves writer.image_b)
+  Ends = AreImages writer.keeper.cells first back.done (now_in back.working back.now) (newest_tick writer.keeper.newest) (disk.may_leave writer.image_a) (disk.may_leave writer.image_b)
 
   -- the keeper is at the round
   ends_busy : (after : Images) → images_after (Newest first) back.done ≡ Newest after → back.working ≡ true
-      → ImagesStand file leaves writer (imaging.with_work back.now (images_after (Newest first) back.done)) → Ends
+      → ImagesStand disk writer (imaging.with_work back.now (images_after (Newest first) back.done)) → Ends
   ends_busy after is working stands =
-      let now : ImagesStand file leaves writer (Newest (begun_by back.now after)) = subst (λ i. ImagesStand file leaves writer (imaging.with_work back.now i)) is stands in
+      let now : ImagesStand disk writer (Newest (begun_by back.now after)) = subst (λ i. ImagesStand disk writer (imaging.with_work back.now i)) is stands in
       record {
         images = begun_by back.now after;
         are_those = ap (λ w. images_with (Newest first) back.done (now_in w back.now)) working ∙ ap (imaging.with_work back.now) is;
@@ -165,9 +155,9 @@ module _ {D : Type 0} (file : D → List ℕ) (leaves : D → List ℕ → Type 
 
   -- the keeper has no round, and the back has none or has just found one
   ends_idle : (after : Images) → images_after (Newest first) back.done ≡ Newest after → (working : Bool) → back.working ≡ working → writer.keeper.phase ≡ phases.Idle
-      → ImagesStand file leaves writer (images_after (Newest first) back.done) → Ends
+      → ImagesStand disk writer (images_after (Newest first) back.done) → Ends
   ends_idle after is false working rest stands =
-      let now : ImagesStand file leaves writer (Newest after) = subst (ImagesStand file leaves writer) is stands in
+      let now : ImagesStand disk writer (Newest after) = subst (ImagesStand disk writer) is stands in
       record {
         images = after;
         are_those = ap (λ w. images_with (Newest first) back.done (now_in w back.now)) working ∙ is;
@@ -175,15 +165,15 @@ module _ {D : Type 0} (file : D → List ℕ) (leaves : D → List ℕ → Type 
         tick = ap newest_tick (newest (Newest after) now);
       }
   ends_idle after is true working rest stands =
-      let now : ImagesStand file leaves writer (Newest after) = subst (ImagesStand file leaves writer) is stands in
+      let now : ImagesStand disk writer (Newest after) = subst (ImagesStand disk writer) is stands in
       record {
         images = begun_by back.now after;
         are_those = ap (λ w. images_with (Newest first) back.done (now_in w back.now)) working ∙ ap (imaging.with_work back.now) is;
-        left = found_are writer.keeper.cells back.now after (leaves writer.image_a) (leaves writer.image_b) (idle (Newest after) now rest) (left (Newest after) now);
+        left = found_are writer.keeper.cells back.now after (disk.may_leave writer.image_a) (disk.may_leave writer.image_b) (idle (Newest after) now rest) (left (Newest after) now);
         tick = ap newest_tick (newest (Newest after) now);
       }
 
-  pub images_end : AreInStep writer.keeper back → StandAfter file leaves (Newest first) writer back → Ends
+  pub images_end : AreInStep writer.keeper back → StandAfter disk (Newest first) writer back → Ends
   images_end step stand =
       let after = newest_after_rounds first back.done in
       elim (is_idle writer.keeper.phase) [
@@ -205,8 +195,8 @@ work_append : (switch : Option ℕ) (queue more : List Record) → with_work swi
 work_append None queue more = refl
 work_append (Some tick) queue more = refl
 
-module _ {D : Type 0} (file : D → List ℕ) (leaves : D → List ℕ → Type 0) (log : Log D) (ring : List Record) (covers : List ℕ) (acked : ℕ) (down : Bool) (start : Logs) (popped : List Record)
-    (w : Writes file leaves log ring covers acked down (content_in start) popped) where
+module _ {D : Type 0} (disk : Ghosts D) (log : Log D) (ring : List Record) (covers : List ℕ) (acked : ℕ) (down : Bool) (start : Logs) (popped : List Record)
+    (w : Writes disk log ring covers acked down (content_in start) popped) where
   pub was_logged : IsLogged (content_in start) popped covers w.logs
   was_logged = record {
     given = w.given;
@@ -227,4 +217,4 @@ module _ {D : Type 0} (file : D → List ℕ) (leaves : D → List ℕ → Type 
       ]
 
 pub popped_first : (popped waiting pushed : List Item) → popped ++ waiting ≡ pushed → records_of popped ++ records_of waiting ≡ records_of pushed
-popped_first popped waiting pushed order = sym (records_append popped waiting) ∙ ap records_of order
+popped_first popped waiting pushed order = sym (flat_map-append record_of popped waiting) ∙ ap records_of order

@@ -1,12 +1,14 @@
 -- Each step of the mutator satisfies `KeepsFront`.
-use Rattle.std.proofs.Common.{◌≡◌, ap, ◌∙◌, sym, ◌⊎◌, inl, inr, Ok, Err, Result, Bool, true, false, List, [], ◌∷◌, ◌++◌, append_assoc, Option, Some, None, MatchOption, refl, subst}
+use Rattle.std.proofs.Common.{◌≡◌, ◌∙◌, sym, ap, ◌⊎◌, inl, inr, Ok, Err, Result, Bool, true, false, List, [], ◌∷◌, ◌++◌, append_assoc, Option, Some, None, MatchOption, refl, subst}
 use Rattle.std.proofs.lemmas.List.{append-nil}
 use Rattle.world_actions.specs.declared.refusal.Refusal.{Refusal}
 use Rattle.workers.specs.declared.item.Item.{Item}
-use Rattle.workers.specs.declared.item.Item.TheVariants.{Start, Tick, Switch, Stop}
+use Rattle.workers.specs.declared.item.Item.TheVariants as items
+use Rattle.workers.specs.declared.item.Owed.{Owed}
+use Rattle.workers.specs.declared.item.Owed.TheVariants.{Tick, Switch}
 use Rattle.workers.specs.Posts.{AskedBatch}
-use Rattle.workers.specs.Channel.{Pushing}
-use Rattle.workers.specs.Mutating.{Playing, MarksIfDue, OpensNone, OwesSwitch, TakesAsk, AnswersBatch, RefusesBatch, RunsBatch, Plays, OwesTick, PushesTick, LosesTick, PaysItem, Pays, StopsPlay}
+use Rattle.workers.specs.Channel.{with_refusal}
+use Rattle.workers.specs.Mutating.{Playing, MarksIfDue, OpensNone, OwesSwitch, TakesAsk, RefusesBatch, RunsBatch, Plays, OwesTick, paid, Pays, StopsPlay}
 use Rattle.worker_steps.specs.Kept.{KeepsFront}
 use Rattle.worker_steps.specs.Running.{MayPlay, MayOpen}
 
@@ -39,28 +41,10 @@ then old mid new a b = record {
   every = b.every ∙ a.every;
 }
 
-pub mark_keeps : (old new : Playing) → MarksIfDue old new → KeepsFront old new
-mark_keeps old new (inl kept) = same old new kept.0
-mark_keeps old new (inr (inl found)) = keeps_all old new found.0 found.1.0 refl refl refl refl refl refl
-mark_keeps old new (inr (inr (inl marks))) =
-    keeps_as old new (Switch old.ended ∷ []) marks.0 marks.1.0.0 refl refl refl (ap (λ (t : Pushing). t.end) marks.2) refl (ap (λ (t : Pushing). t.items) marks.2)
-mark_keeps old new (inr (inr (inr lost))) = keeps_all old new lost.0 lost.1.0.0 refl refl refl refl refl refl
-
-tick_keeps : (old : Playing) (asked : AskedBatch) (new : Playing) → PushesTick old asked new ⊎ LosesTick old asked new → KeepsFront old new
-tick_keeps old asked new (inl pushes) =
-    keeps_as old new (Tick pushes.1.0 ∷ []) pushes.0 pushes.1.1.pair refl refl refl (ap (λ (t : Pushing). t.end) pushes.1.2) refl (ap (λ (t : Pushing). t.items) pushes.1.2)
-tick_keeps old asked new (inr lost) = keeps_all old new lost.0 lost.1.1.pair refl refl refl refl refl refl
-
 refused_keeps : (stuck : Type 0) (old : Playing) (reason : Refusal) (new : Playing) → RefusesBatch stuck old reason new → KeepsFront old new
 refused_keeps stuck old reason new (inl kept) = keeps_all old new kept.0 refl refl refl refl refl refl refl
 refused_keeps stuck old reason new (inr (inl hears)) = keeps_all old new hears.2 refl refl refl refl refl refl refl
 refused_keeps stuck old reason new (inr (inr held)) = keeps_all old new held.0 refl refl refl refl refl refl refl
-
-pub batch_keeps : (go stuck : Type 0) (old : Playing) (asked : AskedBatch) (given : Result (Unit {0}) Refusal) (new : Playing) → AnswersBatch go stuck old asked given new → KeepsFront old new
-batch_keeps go stuck old asked (Ok _) new ran = tick_keeps old asked new ran.2
-batch_keeps go stuck old asked (Err reason) new refused = refused_keeps stuck old reason new refused
-
--- ---- the owed item
 
 owes_tick_keeps : (old : Playing) (asked : AskedBatch) (new : Playing) → OwesTick old asked new → KeepsFront old new
 owes_tick_keeps old asked new (nothing, (ended, runs, is)) = keeps_all old new is runs.pair refl refl refl refl refl refl
@@ -88,24 +72,22 @@ may_open old new false opened none = inl (none refl)
 
 pub opens_keeps : (old new : Playing) → MayOpen old new → KeepsFront old new
 opens_keeps old new (inl (inl kept)) = same old new kept.0
-opens_keeps old new (inl (inr found)) = mark_keeps old new (inr (inl found))
+opens_keeps old new (inl (inr found)) = keeps_all old new found.0 found.1.0 refl refl refl refl refl refl
 opens_keeps old new (inr (up, nothing, is, opens)) = keeps_all old new is opens.0.0 refl refl refl refl refl refl
 
-item_keeps : (old : Playing) (item : Item) (new : Playing) → PaysItem old item new → KeepsFront old new
-item_keeps old (Tick ended) new (inl paid) = keeps_as old new (Tick ended ∷ []) paid refl refl refl refl refl refl refl
-item_keeps old (Tick ended) new (inr lost) = keeps_all old new lost refl refl refl refl refl refl refl
-item_keeps old (Switch number) new (inl paid) = keeps_as old new (Switch number ∷ []) paid refl refl refl refl refl refl refl
-item_keeps old (Switch number) new (inr lost) = keeps_all old new lost refl refl refl refl refl refl refl
-item_keeps old (Start number) new is = keeps_all old new is refl refl refl refl refl refl refl
-item_keeps old Stop new is = keeps_all old new is refl refl refl refl refl refl refl
+owed_keeps : (old new : Playing) (owed : Option Owed) → MatchOption owed (new ≡ old) (λ o. (new ≡ paid old o) ⊎ (new ≡ record old { to = with_refusal old.to; owed = None })) → KeepsFront old new
+owed_keeps old new None is = same old new is
+owed_keeps old new (Some (Tick ended)) (inl is) = keeps_as old new (items.Tick ended ∷ []) is refl refl refl refl refl refl refl
+owed_keeps old new (Some (Switch number)) (inl is) = keeps_as old new (items.Switch number ∷ []) is refl refl refl refl refl refl refl
+owed_keeps old new (Some o) (inr lost) = keeps_all old new lost refl refl refl refl refl refl refl
 
 pub pays_keeps : (old new : Playing) → Pays old new → KeepsFront old new
-pays_keeps old new pays = by_owed old.owed pays
-  where
-    by_owed : (owed : Option Item) → MatchOption owed (new ≡ old) (λ item. PaysItem old item new) → KeepsFront old new
-    by_owed None is = same old new is
-    by_owed (Some item) paid = item_keeps old item new paid
+pays_keeps old new pays = owed_keeps old new old.owed pays
+
+pub mark_keeps : (old new : Playing) → MarksIfDue old new → KeepsFront old new
+mark_keeps old new (inl none) = opens_keeps old new (inl none)
+mark_keeps old new (inr (opened, owes, pays)) = then old opened new (opens_keeps old opened (inr owes)) (pays_keeps opened new pays)
 
 pub stop_keeps : (old new : Playing) → StopsPlay old new → KeepsFront old new
-stop_keeps old new (inl pushed) = keeps_as old new (Stop ∷ []) pushed refl refl refl refl refl refl refl
+stop_keeps old new (inl pushed) = keeps_as old new (items.Stop ∷ []) pushed refl refl refl refl refl refl refl
 stop_keeps old new (inr lost) = keeps_all old new lost refl refl refl refl refl refl refl

@@ -15,6 +15,8 @@ use Rattle.shared_capture.specs.declared.view.Round.{Round}
 use Rattle.shared_capture.specs.declared.view.Snapshot.{Snapshot}
 use Rattle.shared_capture.specs.Rounds.{Agree}
 use Rattle.workers.specs.declared.item.Item.{Item}
+use Rattle.std.proofs.lemmas.Grind.{flat_map-append}
+use Rattle.recovery.proofs.Events.{ticks_behind}
 use Rattle.workers.specs.Items.{record_of, records_of}
 use Rattle.workers.specs.Worlds.{begun, AreUnchanged}
 use Rattle.workers.specs.Logging.{LogContent, content_in, after_records}
@@ -24,18 +26,9 @@ use Rattle.worker_steps.proofs.Parts.{IsPlayed, IsTaken, IsLogged, one_or_none, 
 use Rattle.worker_steps.proofs.Playing.{marked, marked_rounds, AtRest, Played, plays}
 use Rattle.worker_steps.proofs.Written.{SameReported, TakenUp, taken_up, follows_same, marks_same, content_kept, reported_idle}
 
-records_behind : (items more : List Item) → records_of (items ++ more) ≡ records_of items ++ records_of more
-records_behind [] more = refl
-records_behind (item ∷ items) more = ap (λ l. record_of item ++ l) (records_behind items more) ∙ sym (append_assoc (record_of item) (records_of items) (records_of more))
-
-ticks_behind : (queue more : List Record) → ticks_in (queue ++ more) ≡ ticks_in queue ++ ticks_in more
-ticks_behind [] more = refl
-ticks_behind (records.Tick tick ∷ queue) more = ap (λ l. tick.list ∷ l) (ticks_behind queue more)
-ticks_behind (records.Switch tick ∷ queue) more = ticks_behind queue more
-
 all_ticks : (items late : List Item) → ticks_in (records_of late) ≡ [] → ticks_in (records_of (items ++ late)) ≡ ticks_in (records_of items)
 all_ticks items late is =
-    ap ticks_in (records_behind items late) ∙ ticks_behind (records_of items) (records_of late)
+    ap ticks_in (flat_map-append record_of items late) ∙ ticks_behind (records_of items) (records_of late)
     ∙ ap (λ l. ticks_in (records_of items) ++ l) is ∙ append-nil (ticks_in (records_of items))
 
 module _ (laws : Laws) (origin : List ℕ) (ticks : List (List Action)) (words : List ℕ) (first images : Images) (start logs : Logs)
@@ -88,7 +81,7 @@ module _ (laws : Laws) (origin : List ℕ) (ticks : List (List Action)) (words :
       subst (λ i. IsKept origin (ticks ++ ticks_in (records_of (items ++ p.late))) end.2.0 i start (records_of (items ++ p.late))) after end.2.1 in
       let ticks_same : ticks ++ ticks_in (records_of (items ++ p.late)) ≡ all = ap (λ m. ticks ++ m) (all_ticks items p.late p.no_ticks) in
       let queue_same : records_of (items ++ p.late) ≡ popped ++ (rest ++ late) =
-      records_behind items p.late ∙ ap (λ q. q ++ late) (sym order) ∙ append_assoc popped rest late in
+      flat_map-append record_of items p.late ∙ ap (λ q. q ++ late) (sym order) ∙ append_assoc popped rest late in
       let from : IsKept origin all end.2.0 images start (popped ++ (rest ++ late)) =
       subst (λ m. IsKept origin m end.2.0 images start (popped ++ (rest ++ late))) ticks_same
       (subst (λ q. IsKept origin (ticks ++ ticks_in (records_of (items ++ p.late))) end.2.0 images start q) queue_same kept) in

@@ -24,6 +24,8 @@ use Rattle.batches.specs.declared.batch.Request.{Request}
 use Rattle.shared_capture.specs.declared.view.Round.{Round}
 use Rattle.shared_capture.specs.declared.view.Snapshot.{Snapshot}
 use Rattle.shared_capture.specs.Rounds.{round, IsTakenOf, Agree}
+use Rattle.std.proofs.lemmas.List.{nil_from_length}
+use Rattle.workers.proofs.Imagings.{filled_length}
 use Rattle.workers.specs.declared.item.Item.{Item}
 use Rattle.workers.specs.declared.item.Ended.{Ended}
 use Rattle.workers.specs.declared.item.Item.TheVariants.{Start, Tick, Switch, Stop}
@@ -50,10 +52,6 @@ marked_rounds w (Switch number ∷ items) v leads =
     marked_rounds leads.0 items v leads.2 ∙ ap (λ r. r ++ rest) leads.1.1.1 ∙ append_assoc w.rounds (round number w.words leads.1.1.0 ∷ []) rest
 marked_rounds w (Stop ∷ items) v leads = marked_rounds leads.0 items v leads.2 ∙ ap (λ (u : World). u.rounds ++ marked leads.0 items v leads.2) leads.1
 
-pub length_filled : (taken : List Taken) (old : List ℕ) → length (filled_words taken old) ≡ length taken
-length_filled [] old = refl
-length_filled (cell ∷ taken) old = let e = length_filled taken (drop 1 old) in omega (arith, e)
-
 -- the image of a round is the newest one
 abbrev pub opened_by : Snapshot → Images → Images
 opened_by s images = record { slot = other_slot images.slot; tick = s.tick; words = filled_words s.taken images.words; before = Open images.tick images.words; round = None }
@@ -70,10 +68,6 @@ agree_first r rounds s snapshots agree =
 
 agree_rest : (r : Round) (rounds : List Round) (s : Snapshot) (snapshots : List Snapshot) → Agree (r ∷ rounds) (s ∷ snapshots) → Agree rounds snapshots
 agree_rest r rounds s snapshots agree k x is = agree (suc k) x is
-
-no_more : {X : Type 0} (xs : List X) → length xs ≡ 0 → xs ≡ []
-no_more [] e = refl
-no_more (x ∷ xs) e = absurd (omega (arith, e))
 
 module _ (laws : Laws) (origin : List ℕ) (logs : Logs) where
   -- these ticks lead to these words, and the keepers' data follow them
@@ -162,7 +156,7 @@ module _ (laws : Laws) (origin : List ℕ) (logs : Logs) where
       subst (λ n. IsKept origin ticks k.0 (record images { round = Some (record { tick = n; taken = [] }) }) logs (queue ++ records.Switch n ∷ [])) all more in
       let filled : List ℕ = filled_words s.taken images.words in
       let whole : length filled ≡ length origin → IsWorldAt origin ticks s.tick filled =
-      λ long. subst (IsWorldAt origin ticks s.tick) (sym (words (sym (length_filled s.taken images.words) ∙ long))) (world_now ticks s.tick w.words (sym all) k.2) in
+      λ long. subst (IsWorldAt origin ticks s.tick) (sym (words (sym (filled_length s.taken images.words) ∙ long))) (world_now ticks s.tick w.words (sym all) k.2) in
       let taken : IsKept origin ticks k.0 (begun_by s images) logs (queue ++ records.Switch s.tick ∷ []) =
       laws.whole.taken origin ticks k.0 (record images { round = Some empty }) logs (queue ++ records.Switch s.tick ∷ []) empty filled begun refl whole in
       (k.0, subst (λ n. IsKept origin ticks k.0 (begun_by s images) logs (queue ++ records.Switch n ∷ [])) tick taken, k.2)
@@ -172,7 +166,7 @@ module _ (laws : Laws) (origin : List ℕ) (logs : Logs) where
       → Keeps ticks words (begun_by s images) queue → length s.taken ≡ length origin → Keeps ticks words (opened_by s images) queue
   opens ticks words queue images s k whole =
       let taken : ImageRound = record { tick = s.tick; taken = filled_words s.taken images.words } in
-      (max k.0 s.tick, laws.whole.opened origin ticks k.0 (begun_by s images) (opened_by s images) logs queue taken k.1 refl (length_filled s.taken images.words ∙ whole) refl, k.2)
+      (max k.0 s.tick, laws.whole.opened origin ticks k.0 (begun_by s images) (opened_by s images) logs queue taken k.1 refl (filled_length s.taken images.words ∙ whole) refl, k.2)
 
   -- if all cells of a round are taken, they give the words of the round
   taken_words : (ticks : List (List Action)) (queue : List Record) (before : List ℕ) (images : Images) (w : World) (r : Round) (s : Snapshot)
@@ -210,7 +204,8 @@ module _ (laws : Laws) (origin : List ℕ) (logs : Logs) where
       let taken : IsTakenOf r s = agree_first r others s [] agree in
       let begun = begins end ticks before queue images w number s k rest go.0.0 go.0.1 taken.0 (taken_words ticks queue before images w r s k rest.words refl taken unchanged.0) in
       let next = subst (λ l. Keeps ticks l (begun_by s images) (queue ++ records.Switch number ∷ [])) (sym leads.1.0) begun in
-      let more = plays_on items (end_after end (Switch number)) ticks (queue ++ records.Switch number ∷ []) (begun_by s images) leads.0 v next go.1 leads.2 (no_more others (omega (arith, long))) in
+      let more = plays_on items (end_after end (Switch number)) ticks (queue ++ records.Switch number ∷ []) (begun_by s images) leads.0 v next go.1 leads.2
+      (nil_from_length others (omega (arith, long))) in
       (begun_by s images, refl, switch_moved (ticks ++ ticks_in (records_of items)) queue (records_of items) (records.Switch number) v.words (begun_by s images) more)
   plays (Switch number ∷ items) end ticks before queue images (s ∷ done) now w v k rest go leads unchanged agree long whole =
       let r = round number w.words leads.1.1.0 in

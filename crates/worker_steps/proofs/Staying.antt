@@ -6,11 +6,13 @@ use Rattle.workers.specs.declared.log_writer.Log.{Log}
 use Rattle.workers.specs.Mutating.{Playing}
 use Rattle.workers.specs.Imaging.{Imaging}
 use Rattle.workers.specs.Logging.{Logging}
+use Rattle.disk_model.specs.declared.disk.Disk.{Ghosts}
+use Rattle.worker_steps.specs.declared.opened.Opened.{Opened}
 use Rattle.worker_steps.specs.Stopped.{WorldStands, BeginAt, AreSound, StaysSound}
 
-pub stays_sound : {D : Type 0} (file : D → List ℕ) (leaves : D → List ℕ → Type 0) (words : List ℕ) (writer : ImageWriter D) (log : Log D) (ended : ℕ) (m : Playing) (c : Imaging D) (w : Logging D)
-    → m.opening ≡ words → c.opening ≡ writer → w.opening ≡ log → BeginAt ended m.to.items → AreSound file leaves m c w → StaysSound file leaves words writer log ended m c w
-stays_sound {D} file leaves words writer log ended m c w words_are writer_is log_is begin sound first ticks stands all =
+pub stays_sound : {M D : Type 0} (disk : Ghosts D) (world : Opened M D) (m : Playing) (c : Imaging D) (w : Logging D)
+    → m.opening ≡ world.front.live → c.opening ≡ world.images → w.opening ≡ world.log → BeginAt world.ended m.to.items → AreSound disk m c w → StaysSound disk world m c w
+stays_sound {D = D} disk world m c w words_are writer_is log_is begin sound first ticks stands all =
     sound first ticks
-    (subst (λ (x : List ℕ × ImageWriter D × Log D). WorldStands file leaves first ticks x.0 x.1 x.2) (λ i. (sym words_are i, sym writer_is i, sym log_is i)) stands)
+    (subst (λ (x : List ℕ × ImageWriter D × Log D). WorldStands disk first ticks x.0 x.1 x.2) (λ i. (sym words_are i, sym writer_is i, sym log_is i)) stands)
     (begin.0, begin.1 ∙ ap (λ (n : ℕ). Start n ∷ begin.0) all)

@@ -10,7 +10,7 @@ use world_ticks::actions_go_on;
 
 /// Law: once the ends of a world's three workers have met, its four files are sound.
 pub fn stops_are_sound<D: Disk>()
-    ensures { StopsAreSound D.content D.may_leave D.honest }
+    ensures { StopsAreSound D.Disk }
 {
     actions_go_on();
     answers_are_ticks();

@@ -17,25 +17,14 @@ pub struct Signals {
 impl Signals {
     pub fn new(alloc: Global) -> Result<Signals, AllocError>
         ensures images { IfOk result (λ signals. (signals.images.0.pair ≡ signals.images.1.pair)
-            × (signals.images.0.ticks ≡ []) × (signals.images.1.ticks ≡ [])) }
+            × (signals.images.0.numbers ≡ []) × (signals.images.1.numbers ≡ [])) }
         ensures down { IfOk result (λ signals. (signals.down.0.pair ≡ signals.down.1.pair)
-            × (signals.down.0.ticks ≡ []) × (signals.down.1.ticks ≡ [])) }
+            × (signals.down.0.numbers ≡ []) × (signals.down.1.numbers ≡ [])) }
     {
         Ok(Signals {
             bell: bounded(alloc, 1)?,
-            images: word(alloc)?,
-            down: word(alloc)?,
+            images: signal_pair(alloc)?,
+            down: signal_pair(alloc)?,
         })
-    }
-}
-
-// The two seats of a word.
-fn word(alloc: Global) -> Result<(SignalOut, SignalIn), AllocError>
-    ensures { IfOk result (λ pair. (pair.0.pair ≡ pair.1.pair)
-        × (pair.0.ticks ≡ []) × (pair.1.ticks ≡ [])) }
-{
-    match signal_pair(alloc) {
-        Ok(pair) => Ok(pair),
-        Err(_) => Err(AllocError),
     }
 }

@@ -12,24 +12,24 @@ use std::sync::Wait;
 use workers::{Checkpointer, Gate, LogWriter, Mutator};
 
 /// Runs the next batch, if there is one, and owes its tick.
-pub fn play<R: Wait, M: Method, G: Gate + Drop>(rt: &R, mutator: &mut Mutator<M, G>)
+pub fn owe_next_tick<R: Wait, M: Method, G: Gate + Drop>(rt: &R, mutator: &mut Mutator<M, G>)
     ensures keeps { KeepsFront mutator.old mutator.new }
     ensures made { MayPlay (MayGo G.answers Tick) (MayStick G.answers Tick)
         mutator.old mutator.new }
 {
-    let _ = mutator.run_next(rt);
+    let _ = mutator.owe_next_tick(rt);
 }
 
 /// Opens a round, if one is due, and owes its switch.
-pub fn mark<M: Method, G: Gate + Drop>(mutator: &mut Mutator<M, G>)
+pub fn owe_due_switch<M: Method, G: Gate + Drop>(mutator: &mut Mutator<M, G>)
     ensures keeps { KeepsFront mutator.old mutator.new }
     ensures made { MayOpen mutator.old mutator.new }
 {
-    mutator.open_if_due();
+    mutator.owe_due_switch();
 }
 
 /// Pushes the owed item.
-pub fn push<R: Wait, M: Method, G: Gate + Drop>(rt: &R, mutator: &mut Mutator<M, G>)
+pub fn pay<R: Wait, M: Method, G: Gate + Drop>(rt: &R, mutator: &mut Mutator<M, G>)
     ensures keeps { KeepsFront mutator.old mutator.new }
     ensures made { Pays mutator.old mutator.new }
 {
@@ -57,7 +57,7 @@ pub fn pop<R: Wait, D: Disk + Drop, G: Gate + Drop>(rt: &R, log_writer: &mut Log
 /// Makes a step of the log, or refuses the answers that can't be posted.
 pub fn write_log<R: Wait, D: Disk + Drop, G: Gate + Drop>(rt: &R, log_writer: &mut LogWriter<D, G>)
     ensures keeps { KeepsLog log_writer.old log_writer.new }
-    ensures made { LogGoes G.answers D.called D.faults log_writer.old log_writer.new }
+    ensures made { LogGoes G.answers D.Disk log_writer.old log_writer.new }
 {
     if log_writer.is_down() {
         return;
@@ -75,7 +75,7 @@ pub fn write_image<R: Wait, M: Method, D: Disk + Drop, G: Gate + Drop>(
     checkpointer: &mut Checkpointer<M, D, G>,
 )
     ensures keeps { KeepsBack checkpointer.old checkpointer.new }
-    ensures made { ImageGoes G.answers D.called D.faults checkpointer.old checkpointer.new }
+    ensures made { ImageGoes G.answers D.Disk checkpointer.old checkpointer.new }
 {
     if checkpointer.is_over() {
         return;

@@ -13,7 +13,7 @@ use crate::laws::stops_are_sound;
 use crate::next::Next;
 use crate::opened::{Gates, Opened};
 use crate::signals::Signals;
-use crate::steps::{mark, play, pop, push, stop, write_image, write_log};
+use crate::steps::{owe_due_switch, owe_next_tick, pay, pop, stop, write_image, write_log};
 use disk_model::Disk;
 use shared_capture::Method;
 use std::alloc::{AllocError, Global};
@@ -49,11 +49,9 @@ impl<M: Method, D: Disk + Drop, A: Gate + Drop, B: Gate + Drop, C: Gate + Drop> 
         asks: AskReceiver,
         every: u32,
     ) -> Result<Self, AllocError>
-        requires { IsWhole D.honest D.content opened.front opened.back opened.images
-            opened.log opened.ended }
+        requires { IsWhole D.Disk opened }
         ensures begun { IfOk result (λ made.
-            IsBegun opened.front opened.back opened.images opened.log opened.ended every
-            (workers_of made.mutator made.checkpointer made.log_writer)) }
+            IsBegun opened every (workers_of made.mutator made.checkpointer made.log_writer)) }
         ensures asks { IfOk result (λ made. made.mutator.asks ≡ asks) }
         ensures images_rest { IfOk result (λ made.
             IsResting made.checkpointer.images.keeper made.checkpointer.back) }
@@ -69,20 +67,20 @@ impl<M: Method, D: Disk + Drop, A: Gate + Drop, B: Gate + Drop, C: Gate + Drop> 
             ended,
         } = opened;
         let Gates {
-            mutator,
-            checkpointer,
-            log_writer,
+            mutator: play_gate,
+            checkpointer: image_gate,
+            log_writer: log_gate,
         } = gates;
         let Signals {
             bell: (bell, rung),
             images: (out, reported),
             down: (reported_down, heard),
         } = signals;
-        let mutator = Mutator::new(mutator, alloc, asks, front, to, ended, every, bell, heard);
-        let checkpointer = Checkpointer::new(checkpointer, back, out, images, rung);
+        let mutator = Mutator::new(play_gate, alloc, asks, front, to, ended, every, bell, heard);
+        let checkpointer = Checkpointer::new(image_gate, back, out, images, rung);
         let log_writer = LogWriter::new(
             alloc,
-            log_writer,
+            log_gate,
             from,
             reported,
             log,
@@ -101,13 +99,12 @@ impl<M: Method, D: Disk + Drop, A: Gate + Drop, B: Gate + Drop, C: Gate + Drop> 
     /// workers meet only once they have stopped.
     pub fn step<R: Wait>(&mut self, rt: &R, next: Next)
         ensures made { (mid : Started D)
-            × Makes A.answers B.answers C.answers D.called D.faults next
+            × Makes A.answers B.answers C.answers D.Disk next
             (workers_of self.old.mutator self.old.checkpointer self.old.log_writer) mid
             × Meets mid
             (workers_of self.new.mutator self.new.checkpointer self.new.log_writer) }
         ensures sound { IsTrue D.honest
-            → AreSound D.content D.may_leave self.new.mutator
-            self.new.checkpointer self.new.log_writer }
+            → AreSound D.Disk self.new.mutator self.new.checkpointer self.new.log_writer }
         ensures posted { self.new.log_writer.answers.posted
             ≤ acknowledged_by self.new.checkpointer self.new.log_writer }
         ensures in_turn { PlaysInTurn self.new.mutator.asks.taken self.new.mutator.to.items }
@@ -123,8 +120,7 @@ impl<M: Method, D: Disk + Drop, A: Gate + Drop, B: Gate + Drop, C: Gate + Drop> 
     /// beginning of the list.
     pub fn run<R: Wait>(&mut self, rt: &R, steps: Vec<Next>)
         ensures sound { IsTrue D.honest
-            → AreSound D.content D.may_leave self.new.mutator
-            self.new.checkpointer self.new.log_writer }
+            → AreSound D.Disk self.new.mutator self.new.checkpointer self.new.log_writer }
         ensures posted { self.new.log_writer.answers.posted
             ≤ acknowledged_by self.new.checkpointer self.new.log_writer }
         ensures mutator { KeepsFront self.old.mutator self.new.mutator }
@@ -139,7 +135,7 @@ impl<M: Method, D: Disk + Drop, A: Gate + Drop, B: Gate + Drop, C: Gate + Drop> 
 
     // One worker makes the step, and the others stay as they are.
     fn make_step<R: Wait>(&mut self, rt: &R, next: Next)
-        ensures made { Makes A.answers B.answers C.answers D.called D.faults next
+        ensures made { Makes A.answers B.answers C.answers D.Disk next
             (workers_of self.old.mutator self.old.checkpointer self.old.log_writer)
             (workers_of self.new.mutator self.new.checkpointer self.new.log_writer) }
         ensures mutator { KeepsFront self.old.mutator self.new.mutator }
@@ -147,9 +143,9 @@ impl<M: Method, D: Disk + Drop, A: Gate + Drop, B: Gate + Drop, C: Gate + Drop> 
         ensures log_writer { KeepsLog self.old.log_writer self.new.log_writer }
     {
         match next {
-            Next::Play => play(rt, &mut self.mutator),
-            Next::Mark => mark(&mut self.mutator),
-            Next::Push => push(rt, &mut self.mutator),
+            Next::Play => owe_next_tick(rt, &mut self.mutator),
+            Next::Mark => owe_due_switch(&mut self.mutator),
+            Next::Push => pay(rt, &mut self.mutator),
             Next::Stop => stop(rt, &mut self.mutator),
             Next::Pop => pop(rt, &mut self.log_writer),
             Next::Log => write_log(rt, &mut self.log_writer),
@@ -161,8 +157,7 @@ impl<M: Method, D: Disk + Drop, A: Gate + Drop, B: Gate + Drop, C: Gate + Drop> 
     // nothing of the files.
     fn meet(&mut self)
         ensures sound { IsTrue D.honest
-            → AreSound D.content D.may_leave self.new.mutator
-            self.new.checkpointer self.new.log_writer }
+            → AreSound D.Disk self.new.mutator self.new.checkpointer self.new.log_writer }
         ensures posted { self.new.log_writer.answers.posted
             ≤ acknowledged_by self.new.checkpointer self.new.log_writer }
         ensures in_turn { PlaysInTurn self.new.mutator.asks.taken self.new.mutator.to.items }
@@ -201,11 +196,9 @@ pub fn run_world<
     every: u32,
     steps: Vec<Next>,
 ) -> Result<Together<M, D, A, B, C>, AllocError>
-    requires { IsWhole D.honest D.content opened.front opened.back opened.images
-        opened.log opened.ended }
+    requires { IsWhole D.Disk opened }
     ensures sound { IsTrue D.honest → IfOk result (λ world.
-        StaysSound D.content D.may_leave opened.front.live opened.images opened.log opened.ended
-        world.mutator world.checkpointer world.log_writer) }
+        StaysSound D.Disk opened world.mutator world.checkpointer world.log_writer) }
     ensures posted { IfOk result (λ world.
         world.log_writer.answers.posted ≤ acknowledged_by world.checkpointer world.log_writer) }
 {

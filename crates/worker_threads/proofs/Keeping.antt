@@ -1,20 +1,25 @@
 -- A turn of the mutator stays at its front and its end of the channel.
-use Rattle.std.proofs.Common.{◌≡◌, sym, subst, ap, inl, inr, Result, Option, Some, None, MatchOption}
+use Rattle.std.proofs.Common.{◌≡◌, sym, subst, ap, inl, inr, Result, Ok, Err, MatchResult, Option, Some, None, MatchOption}
 use Rattle.world_actions.specs.declared.refusal.Refusal.{Refusal}
 use Rattle.workers.specs.Posts.{AskedBatch}
-use Rattle.workers.specs.Mutating.{Playing, Turns, StopsPlay}
+use Rattle.workers.specs.Mutating.{Playing, Turns, Pays, StopsPlay}
 use Rattle.worker_steps.specs.Kept.{KeepsFront}
-use Rattle.worker_steps.proofs.Keeping.{unmoved, then, takes_keeps, mark_keeps, batch_keeps, stop_keeps}
+use Rattle.worker_steps.proofs.Keeping.{unmoved, then, takes_keeps, mark_keeps, run_keeps, pays_keeps, stop_keeps}
 use Rattle.worker_threads.specs.Kept.{StopsFront}
 
 pub begins : (m : Playing) → KeepsFront m m
 begins m = unmoved m
 
+paid_keeps : (ran after : Playing) (given : Result (Unit {0}) Refusal) → MatchResult given (λ _. Pays ran after) (λ _. after ≡ ran) → KeepsFront ran after
+paid_keeps ran after (Ok _) pays = pays_keeps ran after pays
+paid_keeps ran after (Err _) same = subst (KeepsFront ran) (sym same) (unmoved ran)
+
 turn_keeps : (go stuck : Type 0) (old : Playing) (asked : AskedBatch) (given : Result (Unit {0}) Refusal) (new : Playing) → Turns go stuck old asked given new → KeepsFront old new
-turn_keeps go stuck old asked given new turns =
-    then old turns.taken new (takes_keeps old asked turns.taken turns.takes)
-    (then turns.taken turns.before new (mark_keeps turns.taken turns.before turns.marks_before)
-    (then turns.before turns.after new (batch_keeps go stuck turns.before asked given turns.after turns.batch) (mark_keeps turns.after new turns.marks_after)))
+turn_keeps go stuck old asked given new t =
+    then old t.taken new (takes_keeps old asked t.taken t.takes)
+    (then t.taken t.before new (mark_keeps t.taken t.before t.marks_before)
+    (then t.before t.ran new (run_keeps go stuck t.before asked given t.ran t.runs)
+    (then t.ran t.after new (paid_keeps t.ran t.after given t.pays) (mark_keeps t.after new t.marks_after))))
 
 -- the answer says if there was a batch
 pub may_turn : (go stuck : Type 0) (old new : Playing) (result : Option (Result (Unit {0}) Refusal))

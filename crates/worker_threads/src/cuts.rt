@@ -1,4 +1,4 @@
-//! Workers that are held for good, each after so many of its steps.
+//! Workers that are held for good, each after a given number of its steps.
 ghost use Rattle.std.specs.Prelude.{IsTrue, IfOk};
 ghost use Rattle.worker_steps.specs.Stopped.{StaysSound};
 ghost use Rattle.worker_steps.specs.Begun.{IsWhole};
@@ -34,12 +34,10 @@ pub fn stop_after<
     every: u32,
     play: F,
 ) -> Result<StoppedWorkers<M, D, Cut, Cut, Cut>, NotStarted>
-    requires whole { IsWhole D.honest D.content opened.front opened.back opened.images
-        opened.log opened.ended }
+    requires whole { IsWhole D.Disk opened }
     requires plays { F.IsAlwaysCallable play }
     ensures sound { IsTrue D.honest → IfOk result (λ stopped.
-        StaysSound D.content D.may_leave opened.front.live opened.images opened.log opened.ended
-        stopped.mutator stopped.checkpointer stopped.log_writer) }
+        StaysSound D.Disk opened stopped.mutator stopped.checkpointer stopped.log_writer) }
 {
     let spins = Spins::on_this_machine(rt, alloc)?;
     let (workers, sessions) = start(rt, alloc, cuts, watch, opened, every, spins)?;

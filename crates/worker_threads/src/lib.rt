@@ -16,4 +16,4 @@ pub use cuts::stop_after;
 pub use meeting::{meet_stopped, meet_stopped as ends_meet};
 pub use threads::{NotStarted, StoppedWorkers, StoppedWorkers as Ends, Workers, start, stop};
 pub use watch::{Acked, TickWatch, Watch};
-pub use world_opening::{Seats, start_world};
+pub use world_opening::start_world;

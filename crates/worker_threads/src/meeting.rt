@@ -18,8 +18,7 @@ pub fn meet_stopped<M: Method, D: Disk + Drop, A: Gate + Drop, B: Gate + Drop, C
     stopped: &mut StoppedWorkers<M, D, A, B, C>,
 )
     ensures sound { IsTrue D.honest
-        → AreSound D.content D.may_leave stopped.new.mutator
-        stopped.new.checkpointer stopped.new.log_writer }
+        → AreSound D.Disk stopped.new.mutator stopped.new.checkpointer stopped.new.log_writer }
     ensures in_turn { PlaysInTurn stopped.new.mutator.asks.taken stopped.new.mutator.to.items }
     ensures mutator { stopped.new.mutator ≡ record stopped.old.mutator {
       front = record stopped.old.mutator.front { closed = stopped.new.mutator.front.closed };
@@ -28,7 +27,7 @@ pub fn meet_stopped<M: Method, D: Disk + Drop, A: Gate + Drop, B: Gate + Drop, C
         ≡ record stopped.old.checkpointer { back = stopped.new.checkpointer.back; over = true } }
     ensures back { MetBack stopped.old.checkpointer.back stopped.new.checkpointer.back }
     ensures log_writer { stopped.new.log_writer ≡ stopped.old.log_writer }
-    ensures heard { HeardOnlyOfDown stopped.new.mutator.heard.ticks stopped.new.log_writer.down }
+    ensures heard { HeardOnlyOfDown stopped.new.mutator.heard.numbers stopped.new.log_writer.down }
 {
     stops_are_sound::<D>();
     meet_workers(

@@ -4,7 +4,7 @@ ghost use Rattle.std.specs.Thread.{IsSend};
 ghost use Rattle.workers.specs.AskChannel.{AreOneAskChannel};
 ghost use Rattle.workers.specs.Channel.{AreOneChannel};
 ghost use Rattle.worker_steps.specs.Stopped.{acknowledged_by};
-ghost use Rattle.worker_steps.specs.Begun.{IsWhole, IsBegun};
+ghost use Rattle.worker_steps.specs.Begun.{IsWhole, IsBegun, workers_of};
 ghost use Rattle.worker_threads.specs.Kept.{MayTake, MayWrite, StopsFront, StopsBack, StopsLog};
 
 use crate::promises::{SameCheckpointer, SameLogWriter, SameMutator};
@@ -56,22 +56,15 @@ pub struct Workers<M: Method, D: Disk + Drop, A: Gate + Drop, B: Gate + Drop, C:
 
 impl<M: Method, D: Disk + Drop, A: Gate + Drop, B: Gate + Drop, C: Gate + Drop> Model
     for Workers<M, D, A, B, C> {
-    ghost use Rattle.worker_steps.specs.Begun.{Started, AreTogether};
+    ghost use Rattle.worker_steps.specs.Begun.{Started, workers_of, AreTogether};
 
     ghost Value = { Started D };
 
-    ghost view = { λ w. record {
-      mutator = w.mutator.promise.0.value;
-      checkpointer = w.checkpointer.promise.0.value;
-      log_writer = w.log_writer.promise.0.value;
-    } };
+    ghost view = { λ w. workers_of w.mutator.promise.0.value w.checkpointer.promise.0.value
+        w.log_writer.promise.0.value };
 
-    ghost invariant = { λ w.
-        AreTogether (record {
-          mutator = w.mutator.promise.0.value;
-          checkpointer = w.checkpointer.promise.0.value;
-          log_writer = w.log_writer.promise.0.value;
-        }) };
+    ghost invariant = { λ w. AreTogether (workers_of w.mutator.promise.0.value
+        w.checkpointer.promise.0.value w.log_writer.promise.0.value) };
 }
 
 /// The workers of a world once they have ended.
@@ -119,7 +112,7 @@ type Players<M, D, A, B> = (
 );
 
 /// Starts the workers of a world. A round is due after every `every` ticks. The batches that the
-/// sessions of the returned channel send are run. The workers look for work by these looks. The log
+/// sessions of the returned channel send are run. The workers spin for work like this. The log
 /// writer gets the watch itself, the others get clones. If the start is refused, no thread is left
 /// running.
 pub fn start<
@@ -139,24 +132,17 @@ pub fn start<
     every: u32,
     spins: Spins,
 ) -> Result<(Workers<M, D, A, B, C>, AskChannel), NotStarted>
-    requires { IsWhole D.honest D.content opened.front opened.back opened.images
-        opened.log opened.ended }
-    ensures begun { IfOk result (λ made.
-        IsBegun opened.front opened.back opened.images opened.log opened.ended every made.0) }
+    requires { IsWhole D.Disk opened }
+    ensures begun { IfOk result (λ made. IsBegun opened every made.0) }
     ensures asks { IfOk result (λ made. AreOneAskChannel made.0.mutator.asks.end made.1.end) }
     ensures sessions { IfOk result (λ made. made.1.next ≡ 0) }
 {
     let (sessions, mut asks) = AskChannel::open(alloc)?;
     let spins_too = spins.clone()?;
     asks.spin_by(spins);
-    let Together {
-        mutator,
-        checkpointer,
-        mut log_writer,
-    } = Together::begin(rt, alloc, gates, opened, asks, every)?;
-    log_writer.spin_by(spins_too);
-    let workers = start_threads(rt, watch, mutator, checkpointer, log_writer)?;
-    Ok((workers, sessions))
+    let mut begun = Together::begin(rt, alloc, gates, opened, asks, every)?;
+    begun.log_writer.spin_by(spins_too);
+    Ok((start_threads(rt, watch, begun)?, sessions))
 }
 
 // Starts the threads. If one can't be made, the others end, since the channels between them close.
@@ -168,25 +154,15 @@ fn start_threads<
     B: Gate + Drop + Send + 'static,
     C: Gate + Drop + Send + 'static,
     W: Watch<D> + Clone + Send + 'static,
->(
-    rt: &R,
-    watch: W,
-    mutator: Mutator<M, A>,
-    checkpointer: Checkpointer<M, D, B>,
-    log_writer: LogWriter<D, C>,
-) -> Result<Workers<M, D, A, B, C>, NotStarted>
-    requires pair { mutator.front.pair ≡ checkpointer.back.pair }
-    requires channel { AreOneChannel log_writer.from.end mutator.to.end }
-    requires word { log_writer.covers.pair ≡ checkpointer.covers.pair }
-    requires flag { mutator.heard.pair ≡ log_writer.reported_down.pair }
-    requires takes { MayTake checkpointer }
-    requires writes { MayWrite log_writer }
-    ensures { IfOk result (λ workers. workers
-        ≡ record { mutator = mutator; checkpointer = checkpointer; log_writer = log_writer }) }
+>(rt: &R, watch: W, begun: Together<M, D, A, B, C>) -> Result<Workers<M, D, A, B, C>, NotStarted>
+    requires takes { MayTake begun.checkpointer }
+    requires writes { MayWrite begun.log_writer }
+    ensures { IfOk result (λ workers.
+        workers ≡ workers_of begun.mutator begun.checkpointer begun.log_writer) }
 {
     let watch_too = watch.clone()?;
-    let log_writer = start_log_writer(rt, watch, log_writer)?;
-    match start_players(rt, watch_too, mutator, checkpointer) {
+    let log_writer = start_log_writer(rt, watch, begun.log_writer)?;
+    match start_players(rt, watch_too, begun.mutator, begun.checkpointer) {
         Ok((mutator, checkpointer)) => Ok(Workers {
             mutator,
             checkpointer,
@@ -306,17 +282,9 @@ pub fn stop<R: Threads, M: Method, D: Disk + Drop, A: Gate + Drop, B: Gate + Dro
     ensures checkpointer { StopsBack workers.checkpointer result.checkpointer }
     ensures log_writer { StopsLog workers.log_writer result.log_writer }
 {
-    let Workers {
-        mutator,
-        checkpointer,
-        log_writer,
-    } = workers;
-    let mutator = mutator.join(rt);
-    let checkpointer = checkpointer.join(rt);
-    let log_writer = log_writer.join(rt);
     StoppedWorkers {
-        mutator,
-        checkpointer,
-        log_writer,
+        mutator: workers.mutator.join(rt),
+        checkpointer: workers.checkpointer.join(rt),
+        log_writer: workers.log_writer.join(rt),
     }
 }

@@ -17,21 +17,6 @@ use Rattle.workers.specs.declared.ask_rule.AskView.TheVariants as V
 use Rattle.workers.specs.Posts.{AskedBatch}
 use Rattle.workers.specs.AskOrder.{asks_by, EachIsNext, AreNumbered, IsBefore, Knows, IsInTurn, taken_of, sent, taken, numbering_part, taking_part, next_numbers, new_session}
 
--- ---- pairs
-
-module _ {X : Type 0} (R : X → X → Type 0) where
-  head_of : (x : X) (xs : List X) → AllPairs R (x ∷ xs) → All (R x) xs
-  head_of x xs h k d within = h 0 (suc k) d (omega arith) (omega arith)
-
-  tail_of : (x : X) (xs : List X) → AllPairs R (x ∷ xs) → AllPairs R xs
-  tail_of x xs h i j d lt within = h (suc i) (suc j) d (omega arith) (omega arith)
-
-  -- one more at the end
-  pub pairs_push : (xs : List X) (x : X) → AllPairs R xs → All (λ y. R y x) xs → AllPairs R (xs ++ x ∷ [])
-  pairs_push [] x h all = λ i j d lt within. absurd (omega arith)
-  pairs_push (y ∷ ys) x h all = AllPairs-cons R y (ys ++ x ∷ []) (All-push (R y) ys x (head_of y ys h) (All-head (λ z. R z x) y ys all))
-      (pairs_push ys x (tail_of y ys h) (All-tail (λ z. R z x) y ys all))
-
 -- ---- counts
 
 is_eqb : (a b : ℕ) → a ≡ b → (a == b) ≡ true

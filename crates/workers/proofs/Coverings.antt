@@ -5,8 +5,8 @@ use Rattle.std.proofs.lemmas.List.{append_assoc}
 use Rattle.std.proofs.lemmas.List.Elements.{Contains-append_left}
 use Rattle.action_log.specs.declared.record.Record.{Record}
 use Rattle.action_log.specs.declared.record.Record.TheVariants as records
-use Rattle.shared_capture.specs.SignalWord.{SignalState}
-use Rattle.workers.specs.Covering.{BeginsAt, LeavesOut, IsCovered, loaded, LoadsOn}
+use Rattle.shared_capture.specs.SignalWord.{SignalState, with_number}
+use Rattle.workers.specs.Covering.{BeginsAt, LeavesOut, IsCovered, LoadsOn}
 
 pub leaves_none : (ticks : List ℕ) (all : List Record) → LeavesOut ticks all all
 leaves_none ticks [] = refl
@@ -75,5 +75,5 @@ cover_leaves ticks tick all given taken behind lost at is =
 pub none_before : (ticks : List ℕ) (tick : ℕ) → ticks ≡ [] → (i earlier : ℕ) → slice_get ticks i ≡ Some earlier → earlier < tick
 none_before ticks tick none i earlier is = absurd (let e : None ≡ Some earlier = ap (λ (l : List ℕ). slice_get l i) (sym none) ∙ is in cc)
 
-pub loads_one : (old inside new : SignalState) (tick : ℕ) → inside ≡ old → new ≡ loaded inside tick → LoadsOn old new
-loads_one old inside new tick is e = (tick ∷ [], e ∙ ap (λ (c : SignalState). loaded c tick) is)
+pub loads_one : (old inside new : SignalState) (tick : ℕ) → inside ≡ old → new ≡ with_number inside tick → LoadsOn old new
+loads_one old inside new tick is e = (tick ∷ [], e ∙ ap (λ (c : SignalState). with_number c tick) is)

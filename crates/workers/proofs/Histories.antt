@@ -14,13 +14,15 @@ use Rattle.shared_capture.specs.States.{FrontState, HasFlags, KeepsUntouched, Sa
 use Rattle.workers.specs.declared.item.Item.{Item}
 use Rattle.workers.specs.declared.item.Ended.{Ended}
 use Rattle.workers.specs.declared.item.Item.TheVariants.{Start, Tick, Switch, Stop}
+use Rattle.workers.specs.declared.item.Owed.{Owed}
+use Rattle.workers.specs.declared.item.Owed.TheVariants as owed
 use Rattle.workers.specs.Items.{Goes, items_end, end_after}
 use Rattle.workers.specs.Posts.{AskedBatch}
 use Rattle.workers.specs.AskOrder.{AreNumbered, PlaysInTurn}
 use Rattle.workers.specs.AskChannel.{Taking}
 use Rattle.workers.specs.Channel.{Pushing, with_refusal}
 use Rattle.workers.specs.Worlds.{World, after_item, Leads, begun, world_of, IsUnchanged, AreUnchanged, IsLate, History, Counts}
-use Rattle.workers.specs.Mutating.{Playing, Owes, IsTaken, IsMutator}
+use Rattle.workers.specs.Mutating.{Playing, item_of, Owes, IsTaken, IsMutator}
 use Rattle.workers.proofs.Numbers.{end_more}
 use Rattle.workers.proofs.PlayedAsks.{plays_tick, plays_switch, plays_stop, plays_none}
 
@@ -78,7 +80,7 @@ module _ (m : Playing) (front : FrontState) (heard : SignalState) (is : IsMutato
       → SameRounds m.front front → ended.tick.list ≡ accepted_of requests m.front.live
       → ended.answer.text ≡ answer requests m.front.live ended.answer.number → ended.answer.number ≡ m.ended + 1 → front.live ≡ words_after requests m.front.live
       → (m.ended < TICK_MAX) × (m.since < SEGMENT_TICKS) → (HasFlags m.front → KeepsUntouched m.front front)
-      → IsMutator (record m { front = front; heard = heard; stopped = true; owed = Some (Tick ended) })
+      → IsMutator (record m { front = front; heard = heard; stopped = true; owed = Some (owed.Tick ended) })
   owes_tick ended asked requests own taken same tick text number words room keeps =
       let h = is.history in
       let counts = is.counts in
@@ -112,7 +114,7 @@ module _ (m : Playing) (front : FrontState) (heard : SignalState) (is : IsMutato
 
   -- a round was opened, whose switch is owed
   pub owes_switch : (m.since ≡ 0 → ⊥) → front.live ≡ m.front.live → front.rounds ≡ m.front.rounds ++ round m.ended m.front.live m.front.touched ∷ [] → HasFlags front
-      → IsMutator (record m { front = front; heard = heard; stopped = true; owed = Some (Switch m.ended) })
+      → IsMutator (record m { front = front; heard = heard; stopped = true; owed = Some (owed.Switch m.ended) })
   owes_switch some live rounds flags =
       let now = leads_now m.opening m.to.items m.stopped m.front is.history up in
       let leads = leads_snoc (begun m.opening) m.to.items (world_of m.front) (Switch m.ended) (world_of front) now (live, (m.front.touched, rounds)) in
@@ -143,65 +145,57 @@ module _ (m : Playing) (front : FrontState) (heard : SignalState) (is : IsMutato
 
 -- ---- the owed item
 
-pub owed_item : (m : Playing) (item : Item) → IsMutator m → m.owed ≡ Some item → Owes m item
-owed_item m item is some = subst (λ (o : Option Item). IfSome o (Owes m)) some is.owes
+pub owed_item : (m : Playing) (o : Owed) → IsMutator m → m.owed ≡ Some o → Owes m (item_of o)
+owed_item m o is some = subst (λ (x : Option Owed). IfSome x (λ o. Owes m (item_of o))) some is.owes
 
 -- a mutator that hasn't stopped owes nothing
 pub owes_nothing : (m : Playing) → IsMutator m → m.stopped ≡ false → m.owed ≡ None
 owes_nothing m is up = by_owed m.owed refl
   where
-    by_owed : (owed : Option Item) → m.owed ≡ owed → m.owed ≡ None
+    by_owed : (some : Option Owed) → m.owed ≡ some → m.owed ≡ None
     by_owed None same = same
-    by_owed (Some item) same = absurd (let e : true ≡ false = sym (owed_item m item is same).stopped ∙ up in cc)
+    by_owed (Some o) same = absurd (let e : true ≡ false = sym (owed_item m o is same).stopped ∙ up in cc)
 
-module _ (m : Playing) (to : Pushing) (is : IsMutator m) (owed : Option Item) (none : owed ≡ None) where
-  owes_none : (new : Playing) → IfSome owed (Owes new)
-  owes_none new = subst (λ (o : Option Item). IfSome o (Owes new)) (sym none) tt
+module _ (m : Playing) (to : Pushing) (is : IsMutator m) (left : Option Owed) (none : left ≡ None) where
+  owes_none : (new : Playing) → IfSome left (λ o. Owes new (item_of o))
+  owes_none new = subst (λ (x : Option Owed). IfSome x (λ o. Owes new (item_of o))) (sym none) tt
 
-  -- all acts of the front are stated once the item is pushed
-  reported_paid : (item : Item) → Owes m item → to.items ≡ m.to.items ++ item ∷ [] → History m.opening to.items false m.front
-  reported_paid item owes pushed = record {
-    late = [];
-    is_late = inl refl;
-    reported = world_of m.front;
-    leads = subst (λ (l : List Item). Leads (begun m.opening) l (world_of m.front)) (sym (append-nil to.items ∙ pushed)) owes.leads;
-    rounds = refl;
-    all_reported = λ _. (refl, refl);
-  }
+  -- the item was pushed: all acts of the front are stated
+  paid_item : (item : Item) (ended since : ℕ) → Owes m item → to.items ≡ m.to.items ++ item ∷ [] → Counts (end_after (items_end m.to.items) item) ended since → ended ≤ TICK_MAX
+      → IsMutator (record m { to = to; ended = ended; since = since; stopped = false; owed = left })
+  paid_item item ended since owes pushed counts most =
+      let last : items_end to.items ≡ end_after (items_end m.to.items) item = ap items_end pushed ∙ end_more m.to.items item in record {
+        history = record {
+          late = [];
+          is_late = inl refl;
+          reported = world_of m.front;
+          leads = subst (λ (l : List Item). Leads (begun m.opening) l (world_of m.front)) (sym (append-nil to.items ∙ pushed)) owes.leads;
+          rounds = refl;
+          all_reported = λ _. (refl, refl);
+        };
+        in_turn = subst (PlaysInTurn m.asks.taken) (sym pushed) owes.in_turn;
+        counts = subst (λ (e : QueueEnd). Counts e ended since) (sym last) counts;
+        rising = λ _. subst (λ (e : QueueEnd). UpTo e.base m.front.rounds) (sym last) owes.rising;
+        most = most;
+        flags = is.flags;
+        unchanged = is.unchanged;
+        owes = owes_none _;
+      }
 
   pub paid_tick : (ended : Ended) → Owes m (Tick ended) → to.items ≡ m.to.items ++ Tick ended ∷ []
-      → IsMutator (record m { to = to; ended = m.ended + 1; since = m.since + 1; stopped = false; owed = owed })
-  paid_tick ended owes pushed =
-      let last : items_end to.items ≡ end_after (items_end m.to.items) (Tick ended) = ap items_end pushed ∙ end_more m.to.items (Tick ended) in
-      let counts = is.counts in record {
-        history = reported_paid (Tick ended) owes pushed;
-        in_turn = subst (PlaysInTurn m.asks.taken) (sym pushed) owes.in_turn;
-        counts = subst (λ (e : QueueEnd). Counts e (m.ended + 1) (m.since + 1)) (sym last) (record { count = ap (λ k. k + 1) counts.count; all = omega (arith, counts.all) });
-        rising = λ _. subst (λ (e : QueueEnd). UpTo e.base m.front.rounds) (sym last) owes.rising;
-        most = omega (arith, owes.goes.1, counts.all, counts.count);
-        flags = is.flags;
-        unchanged = is.unchanged;
-        owes = owes_none _;
-      }
+      → IsMutator (record m { to = to; ended = m.ended + 1; since = m.since + 1; stopped = false; owed = left })
+  paid_tick ended owes pushed = let counts = is.counts in
+      paid_item (Tick ended) (m.ended + 1) (m.since + 1) owes pushed
+      (record { count = ap (λ k. k + 1) counts.count; all = omega (arith, counts.all) }) (omega (arith, owes.goes.1, counts.all, counts.count))
 
   pub paid_switch : (number : ℕ) → Owes m (Switch number) → to.items ≡ m.to.items ++ Switch number ∷ []
-      → IsMutator (record m { to = to; since = 0; stopped = false; owed = owed })
-  paid_switch number owes pushed =
-      let last : items_end to.items ≡ end_after (items_end m.to.items) (Switch number) = ap items_end pushed ∙ end_more m.to.items (Switch number) in
-      let counts = is.counts in record {
-        history = reported_paid (Switch number) owes pushed;
-        in_turn = subst (PlaysInTurn m.asks.taken) (sym pushed) owes.in_turn;
-        counts = subst (λ (e : QueueEnd). Counts e m.ended 0) (sym last) (record { count = refl; all = omega (arith, owes.goes.0, counts.all, counts.count) });
-        rising = λ _. subst (λ (e : QueueEnd). UpTo e.base m.front.rounds) (sym last) owes.rising;
-        most = is.most;
-        flags = is.flags;
-        unchanged = is.unchanged;
-        owes = owes_none _;
-      }
+      → IsMutator (record m { to = to; since = 0; stopped = false; owed = left })
+  paid_switch number owes pushed = let counts = is.counts in
+      paid_item (Switch number) m.ended 0 owes pushed (record { count = refl; all = omega (arith, owes.goes.0, counts.all, counts.count) }) is.most
 
   -- the push was refused
-  pub unpaid : to ≡ with_refusal m.to → IsMutator (record m { to = to; owed = owed })
-  unpaid refused = subst (λ (t : Pushing). IsMutator (record m { to = t; owed = owed })) (sym refused) (record {
+  pub unpaid : to ≡ with_refusal m.to → IsMutator (record m { to = to; owed = left })
+  unpaid refused = subst (λ (t : Pushing). IsMutator (record m { to = t; owed = left })) (sym refused) (record {
     history = is.history;
     in_turn = is.in_turn;
     counts = is.counts;
@@ -249,9 +243,11 @@ late_end : (items more late : List Item) → items_end more ≡ items_end items 
 late_end items more late same (inl none) = inl none
 late_end items more late same (inr one) = inr (one.0, one.1, subst (λ (e : QueueEnd). Goes e (Switch one.0)) (sym same) one.2)
 
-owes_stop : (m : Playing) (to : Pushing) → to.items ≡ m.to.items ++ Stop ∷ [] → (owed : Option Item) → IfSome owed (Owes m) → IfSome owed (Owes (record m { to = to }))
+owes_stop : (m : Playing) (to : Pushing) → to.items ≡ m.to.items ++ Stop ∷ [] → (owed : Option Owed)
+    → IfSome owed (λ o. Owes m (item_of o)) → IfSome owed (λ o. Owes (record m { to = to }) (item_of o))
 owes_stop m to pushed None none = tt
-owes_stop m to pushed (Some item) owes =
+owes_stop m to pushed (Some o) owes =
+    let item = item_of o in
     let last : items_end to.items ≡ items_end m.to.items = ap items_end pushed ∙ end_more m.to.items Stop in
     record {
       stopped = owes.stopped;

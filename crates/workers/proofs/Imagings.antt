@@ -21,6 +21,7 @@ use Rattle.shared_capture.specs.States.{BackState, TookBack, SameDone, FoundRoun
 use Rattle.workers.specs.declared.checkpointer.round.ImageWriter.{ImageWriter}
 use Rattle.workers.specs.Imaging.{round_of, with_work, images_after, newest_after, HasRound, AreInStep, RoundRuns}
 use Rattle.workers.specs.Imaging.{ImagesStand, FollowsRounds, WriterFits, ReportsFaults, Imaging, IsCheckpointer}
+use Rattle.disk_model.specs.declared.disk.Disk.{Ghosts}
 use Rattle.workers.specs.Publishing.{ArePublished}
 
 -- ---- the words of a round
@@ -34,7 +35,7 @@ filled_more [] cell old = refl
 filled_more (c ∷ cells) cell old =
     ap (λ (l : List ℕ). word_of c (get_or old 0 0) ∷ l) (filled_more cells cell (drop 1 old) ∙ ap (λ (x : ℕ). filled_words cells (drop 1 old) ++ word_of cell x ∷ []) (rest_of old (length cells)))
 
-filled_length : (cells : List Taken) (old : List ℕ) → length (filled_words cells old) ≡ length cells
+pub filled_length : (cells : List Taken) (old : List ℕ) → length (filled_words cells old) ≡ length cells
 filled_length [] old = refl
 filled_length (c ∷ cells) old = let e = filled_length cells (drop 1 old) in omega (arith, e)
 
@@ -181,16 +182,16 @@ images_on answer.Working cells first next old new not s = elim s.2 [
 images_on (answer.Opened tick) cells first next old new not s = absurd (not tick refl)
 images_on answer.Down cells first next old new not s = s.2 ∙ ap (λ (b : BackState). with_work b.now (images_after first b.done)) (sym s.3)
 
-module _ {D : Type 0} (file : D → List ℕ) (leaves : D → List ℕ → Type 0) (honest : Bool) where
+module _ {D : Type 0} (disk : Ghosts D) where
   -- the effect of a step on the images that keeper and files represent
   abbrev pub GoesOn : ImageAnswer → (old new : ImageWriter D) (back next : BackState) → Type 0
-  GoesOn given old new back next = IsTrue honest → (images : ImageFiles) → ImagesStand file leaves old images
-      → (after : ImageFiles) × ImagesStand file leaves new after × StepsImages TookBack old.keeper.cells images given after back next
+  GoesOn given old new back next = IsTrue disk.honest → (images : ImageFiles) → ImagesStand disk old images
+      → (after : ImageFiles) × ImagesStand disk new after × StepsImages TookBack old.keeper.cells images given after back next
 
   pub follows_on : (given : ImageAnswer) (opening old new : ImageWriter D) (back next : BackState) → NotOpened given
       → TakesCells given old.keeper new.keeper back next → Ends given old.keeper new.keeper
       → ((given ≡ answer.Idle) ↔ (old.keeper.phase ≡ Idle)) → ((given ≡ answer.Down) ↔ (new.keeper.phase ≡ Down)) → OnWorking given (new.keeper.phase ≡ Idle → ⊥) → HasRound old.keeper
-      → GoesOn given old new back next → FollowsRounds file leaves honest opening old back → FollowsRounds file leaves honest opening new next
+      → GoesOn given old new back next → FollowsRounds disk opening old back → FollowsRounds disk opening new next
   follows_on given opening old new back next not takes ends idle down on busy goes f =
       let same = same_back given old.keeper new.keeper back next takes in
       let newest = (not_opened given (new.keeper ≡ opened_keeper old.keeper) ((new.keeper.tick ≡ old.keeper.tick) × (new.keeper.newest ≡ old.keeper.newest)) not ends).1 in
@@ -202,7 +203,7 @@ module _ {D : Type 0} (file : D → List ℕ) (leaves : D → List ℕ → Type 
             let went = goes is (with_work back.now (images_after first back.done)) ((f.stands is first stood).round busy) in
             record {
               rest = λ idles. absurd (stays_busy given old.keeper new.keeper not idle down on busy idles);
-              round = λ _. subst (λ (i : ImageFiles). ImagesStand file leaves new i) (images_on given old.keeper.cells first went.0 back next not went.2) went.1;
+              round = λ _. subst (λ (i : ImageFiles). ImagesStand disk new i) (images_on given old.keeper.cells first went.0 back next not went.2) went.1;
             };
       }
 
@@ -211,7 +212,7 @@ module _ {D : Type 0} (file : D → List ℕ) (leaves : D → List ℕ → Type 
       → TakesCells (answer.Opened tick) old.keeper new.keeper back next → new.keeper ≡ opened_keeper old.keeper
       → cells_taken old.keeper ≡ old.keeper.cells → HasRound old.keeper → AreInStep old.keeper back
       → done.done ≡ next.done ++ next.now ∷ [] → done.cells ≡ next.cells
-      → GoesOn (answer.Opened tick) old new back next → FollowsRounds file leaves honest opening old back → FollowsRounds file leaves honest opening new done
+      → GoesOn (answer.Opened tick) old new back next → FollowsRounds disk opening old back → FollowsRounds disk opening new done
   follows_opened tick opening old new back next done (inr takes) opened all busy step more cells goes f =
       absurd (let kept : cells_taken new.keeper ≡ cells_taken old.keeper = ap cells_taken opened in omega (arith, takes.2, kept))
   follows_opened tick opening old new back next done (inl stays) opened all busy step more cells goes f =
@@ -234,7 +235,7 @@ module _ {D : Type 0} (file : D → List ℕ) (leaves : D → List ℕ → Type 
             let after : went.0 ≡ images_after first done.done =
             s.4 ∙ (work_opened back.now before s.0 s.1 ∙ (sym (images_more first back.done back.now) ∙ ap (images_after first) (sym grown))) in
             record {
-              rest = λ _. subst (λ (i : ImageFiles). ImagesStand file leaves new i) after went.1;
+              rest = λ _. subst (λ (i : ImageFiles). ImagesStand disk new i) after went.1;
               round = λ runs. absurd (runs (ap (λ (k : Progress). k.phase) opened));
             };
       }
@@ -283,33 +284,33 @@ begun_images : (now : Snapshot) (tick : ℕ) (images : ImageFiles) → now.tick 
 begun_images now tick (NoneYet images) is none = rw (is, none) refl
 begun_images now tick (Newest images) is none = rw (is, none) refl
 
-module _ {D : Type 0} (file : D → List ℕ) (leaves : D → List ℕ → Type 0) (honest : Bool) where
+module _ {D : Type 0} (disk : Ghosts D) where
   -- a round may begin on these files
   abbrev pub Begins : (tick : ℕ) → ImageWriter D → (next : ImageWriter D) → Type 0
-  Begins tick old next = (images : ImageFiles) → ImagesStand file leaves old images → ImagesStand file leaves next (with_round tick images)
+  Begins tick old next = (images : ImageFiles) → ImagesStand disk old images → ImagesStand disk next (with_round tick images)
 
   pub begun_follows : (tick : ℕ) (opening old next : ImageWriter D) (back found : BackState)
       → next.keeper ≡ begun_keeper tick old.keeper → old.keeper.phase ≡ Idle → SameDone back found → IsFresh tick found
-      → Begins tick old next → FollowsRounds file leaves honest opening old back → FollowsRounds file leaves honest opening next found
+      → Begins tick old next → FollowsRounds disk opening old back → FollowsRounds disk opening next found
   begun_follows tick opening old next back found begun idle same is begins f = record {
     newest = ap (λ (k : Progress). k.newest) begun ∙ (f.newest ∙ ap (λ (d : List Snapshot). newest_after opening.keeper.newest d) (sym same.2));
     whole = subst (λ (d : List Snapshot). All (λ (s : Snapshot). length s.taken ≡ found.cells) d) (sym same.2)
         (subst (λ (n : ℕ). All (λ (s : Snapshot). length s.taken ≡ n) back.done) (sym same.1) f.whole);
     stands = λ sure first stood.
         let before = images_after first back.done in
-        let now : ImagesStand file leaves next (with_work found.now before) =
-        subst (λ (i : ImageFiles). ImagesStand file leaves next i) (begun_images found.now tick before is.tick is.none) (begins before ((f.stands sure first stood).rest idle)) in
+        let now : ImagesStand disk next (with_work found.now before) =
+        subst (λ (i : ImageFiles). ImagesStand disk next i) (begun_images found.now tick before is.tick is.none) (begins before ((f.stands sure first stood).rest idle)) in
         record {
           rest = λ over. absurd (begun_busy tick old.keeper (sym (ap (λ (k : Progress). k.phase) begun) ∙ over));
-          round = λ _. subst (λ (d : List Snapshot). ImagesStand file leaves next (with_work found.now (images_after first d))) (sym same.2) now;
+          round = λ _. subst (λ (d : List Snapshot). ImagesStand disk next (with_work found.now (images_after first d))) (sym same.2) now;
         };
   }
 
   pub checkpointer_goes_on : (next : Imaging D) (found : BackState) → AreInStep next.images.keeper next.back
-      → next.opening.keeper.cells ≡ found.cells → (IsTrue honest → WriterFits file next.images) → FollowsRounds file leaves honest next.opening next.images next.back
+      → next.opening.keeper.cells ≡ found.cells → (IsTrue disk.honest → WriterFits disk next.images) → FollowsRounds disk next.opening next.images next.back
       → RoundRuns found next.images.keeper next.back → ArePublished next.images.keeper.newest next.back.done next.covers
       → (newest : Option (Slot × ℕ)) → newest ≡ newest_after next.opening.keeper.newest found.done → newest_tick newest < found.now.tick
-      → IsCheckpointer honest file leaves next
+      → IsCheckpointer disk next
   checkpointer_goes_on next found step cells fits follows runs published newest was newer = record {
     step = step;
     cells = cells ∙ sym runs.same.1;
@@ -364,20 +365,20 @@ fits_begun : (keeper next : Progress) (image_a image_b : List ℕ) → next.newe
 fits_begun keeper next image_a image_b same keeps fits =
     subst (λ (n : Option (Slot × ℕ)). Fits next (of_slot (target_of n) image_a image_b) (of_slot (target_of n) image_b image_a)) (sym same) (keeps _ _ fits)
 
-module _ {D : Type 0} (file : D → List ℕ) (leaves : D → List ℕ → Type 0) (honest : Bool) where
-  pub checkpointer_begins : (old : Imaging D) (number : ℕ) (next : ImageWriter D) (found : BackState) → IsCheckpointer honest file leaves old
+module _ {D : Type 0} (disk : Ghosts D) where
+  pub checkpointer_begins : (old : Imaging D) (number : ℕ) (next : ImageWriter D) (found : BackState) → IsCheckpointer disk old
       → next.keeper ≡ begun_keeper number old.images.keeper → next.image_a ≡ old.images.image_a
       → next.image_b ≡ old.images.image_b → old.images.keeper.phase ≡ Idle → SameDone old.back found → IsFresh number found → newest_tick old.images.keeper.newest < number
-      → ((target newest : List ℕ) → Fits old.images.keeper target newest → Fits next.keeper target newest) → Begins file leaves honest number old.images next
-      → IsCheckpointer honest file leaves (record { back = found; covers = old.covers; images = next; opening = old.opening; over = old.over })
+      → ((target newest : List ℕ) → Fits old.images.keeper target newest → Fits next.keeper target newest) → Begins disk number old.images next
+      → IsCheckpointer disk (record { back = found; covers = old.covers; images = next; opening = old.opening; over = old.over })
   checkpointer_begins old number next found is begun same_a same_b idle same fresh newer fits begins =
       let newest : next.keeper.newest ≡ old.images.keeper.newest = ap (λ (k : Progress). k.newest) begun in
       record {
         step = begun_in_step number old.images.keeper next.keeper old.back found begun same.1 fresh is.step;
         cells = is.cells ∙ sym same.1;
-        fits = λ sure. subst (λ a. FitsFiles next.keeper (file a) (file next.image_b)) (sym same_a)
-            (subst (λ b. FitsFiles next.keeper (file old.images.image_a) (file b)) (sym same_b) (fits_begun old.images.keeper next.keeper _ _ newest fits (is.fits sure)));
-        follows = begun_follows file leaves honest number old.opening old.images next old.back found begun idle same fresh begins is.follows;
+        fits = λ sure. subst (λ a. FitsFiles next.keeper (disk.content a) (disk.content next.image_b)) (sym same_a)
+            (subst (λ b. FitsFiles next.keeper (disk.content old.images.image_a) (disk.content b)) (sym same_b) (fits_begun old.images.keeper next.keeper _ _ newest fits (is.fits sure)));
+        follows = begun_follows disk number old.opening old.images next old.back found begun idle same fresh begins is.follows;
         published =
             subst (λ (d : List Snapshot). ArePublished next.keeper.newest d old.covers) (sym same.2)
             (subst (λ (n : Option (Slot × ℕ)). ArePublished n old.back.done old.covers) (sym newest) is.published);

@@ -13,7 +13,7 @@ mod Failing
 mod Calling
 pub mod Reporting
 pub mod Loggings
-mod Imagings
+pub mod Imagings
 mod Publishings
 mod Rounding
 mod Receipts

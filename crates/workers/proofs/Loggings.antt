@@ -1,6 +1,9 @@
 -- The log writer's invariant still holds after each of its acts.
-use Rattle.std.proofs.Common.{arith, ◌≡◌, ◌⊎◌, inl, ℕ, ◌+◌, ◌≤◌, Bool, true, false, IsTrue, List, [], ◌∷◌, ◌++◌, length, length-append, append-nil, refl, sym, ap, ◌∙◌, subst, Option, None, IfSome}
+use Rattle.std.proofs.Common.{arith, ◌≡◌, ◌⊎◌, inl, ℕ, ◌+◌, ◌≤◌, Bool, true, false, IsTrue, ◌||◌, List, [], ◌∷◌, ◌++◌, length}
+use Rattle.std.proofs.Common.{length-append, append-nil, refl, sym, ap, ◌∙◌, subst, Option, None, IfSome}
 use Rattle.std.proofs.lemmas.List.{append_assoc}
+use Rattle.std.proofs.lemmas.Grind.{flat_map-append}
+use Rattle.std.proofs.lemmas.List.Folds.{list_any-append}
 use Rattle.world_ticks.specs.declared.tick.TheConstants.{TICK_MAX}
 use Rattle.circular_buffer.specs.Buffer.{Buffer}
 use Rattle.action_log.specs.declared.record.Record.{Record}
@@ -13,7 +16,7 @@ use Rattle.action_log.specs.Progress.{QueueFollows, QueueFollowsIn, end_of, end_
 use Rattle.action_log.specs.Logs.{Logs}
 use Rattle.action_log.specs.Files.{FitsFiles}
 use Rattle.recovery.specs.Events.{with_work}
-use Rattle.shared_capture.specs.SignalWord.{SignalState}
+use Rattle.shared_capture.specs.SignalWord.{SignalState, with_number}
 use Rattle.workers.specs.declared.item.Item.{Item}
 use Rattle.workers.specs.declared.item.Item.TheVariants.{Start, Tick, Switch, Stop}
 use Rattle.workers.specs.Posts.{Unposted}
@@ -21,14 +24,14 @@ use Rattle.workers.specs.declared.log_writer.Log.{Log}
 use Rattle.workers.specs.Items.{Goes, end_after, items_end, record_of, records_of}
 use Rattle.workers.specs.Channel.{Popping}
 use Rattle.workers.specs.Answering.{Answering, AreNext, answers_of, all_answers_of}
-use Rattle.workers.specs.Covering.{LeavesOut, loaded}
+use Rattle.workers.specs.Covering.{LeavesOut}
 use Rattle.workers.specs.Logging.{Logging, IsLogging, Writes, content_in, is_stop, has_stop, is_over, Took, HasAcked, LogStands, IsReady, writer_at}
 use Rattle.workers.proofs.Numbers.{end_more}
+use Rattle.disk_model.specs.declared.disk.Disk.{Ghosts}
 use Rattle.workers.proofs.Reporting.{LogAdvances, writes_on, writes_more, writes_lost}
 
 pub records_more : (items : List Item) (x : Item) → records_of (items ++ x ∷ []) ≡ records_of items ++ record_of x
-records_more [] x = append-nil (record_of x)
-records_more (y ∷ items) x = ap (λ (l : List Record). record_of y ++ l) (records_more items x) ∙ sym (append_assoc (record_of y) (records_of items) (record_of x))
+records_more items x = flat_map-append record_of items (x ∷ []) ∙ ap (λ (l : List Record). records_of items ++ l) (append-nil (record_of x))
 
 numbers_after : (end : QueueEnd) (item : Item) (number : ℕ) (waiting : List Unposted) → Goes end item
     → number + length waiting ≡ end.base + end.count → number + length (waiting ++ answers_of item) ≡ (end_after end item).base + (end_after end item).count
@@ -50,7 +53,7 @@ next_of end (Tick ended) number waiting goes none is = (omega (arith, goes.2, is
 next_of end (Switch n) number waiting goes none is = tt
 next_of end Stop number waiting goes none is = tt
 
-module _ {D : Type 0} (file : D → List ℕ) (leaves : D → List ℕ → Type 0) (honest : Bool) (w : Logging D) (is : IsLogging file leaves honest w) where
+module _ {D : Type 0} (disk : Ghosts D) (w : Logging D) (is : IsLogging disk w) where
   -- an item was popped
   module _ (item : Item) (from : Popping) (popped : from.items ≡ w.from.items ++ item ∷ []) (goes : Goes (items_end w.from.items) item) where
     popped_end : items_end from.items ≡ end_after (items_end w.from.items) item
@@ -64,7 +67,7 @@ module _ {D : Type 0} (file : D → List ℕ) (leaves : D → List ℕ → Type 
 
   pub kept : (item : Item) (from : Popping) (ring : Buffer Record) (answers : Answering) (over : Bool) → w.down ≡ false → from.items ≡ w.from.items ++ item ∷ [] → Goes (items_end w.from.items) item
       → QueueFollows w.log.keeper ring.items → end_of w.log.keeper ring.items ≡ end_after (end_of w.log.keeper w.ring.items) item → ring ≡ record w.ring { items = w.ring.items ++ record_of item }
-      → answers ≡ record w.answers { waiting = w.answers.waiting ++ answers_of item } → IsLogging file leaves honest (record w { from = from; ring = ring; answers = answers; over = over })
+      → answers ≡ record w.answers { waiting = w.answers.waiting ++ answers_of item } → IsLogging disk (record w { from = from; ring = ring; answers = answers; over = over })
   kept item from ring answers over up popped goes follows end ring_is answers_is = record {
     started = is.started;
     fits = is.fits;
@@ -78,28 +81,28 @@ module _ {D : Type 0} (file : D → List ℕ) (leaves : D → List ℕ → Type 
     durable = subst (λ (a : Answering). a.posted ≤ w.acked) (sym answers_is) is.durable;
     reports = is.reports;
     writes = λ h logs stands.
-        (subst (λ (r : List Record). Writes file leaves w.log ring.items w.covers.ticks w.acked w.down (content_in logs) r) (sym (ap records_of popped ∙ records_more w.from.items item))
-        (subst (λ (b : Buffer Record). Writes file leaves w.log b.items w.covers.ticks w.acked w.down (content_in logs) (records_of w.from.items ++ record_of item)) (sym ring_is)
-        (writes_more file leaves w.log w.ring.items (record_of item) w.covers.ticks w.acked w.down (content_in logs) (records_of w.from.items) up (is.writes h logs stands))));
+        (subst (λ (r : List Record). Writes disk w.log ring.items w.covers.numbers w.acked w.down (content_in logs) r) (sym (ap records_of popped ∙ records_more w.from.items item))
+        (subst (λ (b : Buffer Record). Writes disk w.log b.items w.covers.numbers w.acked w.down (content_in logs) (records_of w.from.items ++ record_of item)) (sym ring_is)
+        (writes_more disk w.log w.ring.items (record_of item) w.covers.numbers w.acked w.down (content_in logs) (records_of w.from.items) up (is.writes h logs stands))));
   }
 
   -- the content of the files after a step with this answer
   pub reported_on : (covers : SignalState) (tick : ℕ) (log : Log D) (ring : Buffer Record) (given : LogAnswer) (acked : ℕ) → (acked ≡ w.acked) ⊎ (given ≡ answer.Acked acked)
-      → covers ≡ loaded w.covers tick → (IsTrue honest → LogAdvances file leaves tick w.log log w.ring.items ring.items given)
-      → IsTrue honest → (logs : Logs) → LogStands file leaves w.opening logs → Writes file leaves log ring.items covers.ticks acked w.down (content_in logs) (records_of w.from.items)
+      → covers ≡ with_number w.covers tick → (IsTrue disk.honest → LogAdvances disk tick w.log log w.ring.items ring.items given)
+      → IsTrue disk.honest → (logs : Logs) → LogStands disk w.opening logs → Writes disk log ring.items covers.numbers acked w.down (content_in logs) (records_of w.from.items)
   reported_on covers tick log ring given acked which reported advances = λ h logs stands.
-      subst (λ (c : SignalState). Writes file leaves log ring.items c.ticks acked w.down (content_in logs) (records_of w.from.items)) (sym reported)
-      (writes_on file leaves w.log log w.ring.items ring.items tick w.covers.ticks given w.acked acked w.down (content_in logs)
+      subst (λ (c : SignalState). Writes disk log ring.items c.numbers acked w.down (content_in logs) (records_of w.from.items)) (sym reported)
+      (writes_on disk w.log log w.ring.items ring.items tick w.covers.numbers given w.acked acked w.down (content_in logs)
       (records_of w.from.items) is.follows which (advances h) (is.writes h logs stands))
 
   pub advanced : (covers : SignalState) (tick : ℕ) (log : Log D) (ring : Buffer Record) (answers : Answering) (given : LogAnswer)
-      (acked : ℕ) → log.keeper.starting ≡ false → (IsTrue honest → FitsFiles log.keeper (file log.a) (file log.b))
+      (acked : ℕ) → log.keeper.starting ≡ false → (IsTrue disk.honest → FitsFiles log.keeper (disk.content log.a) (disk.content log.b))
       → QueueFollows log.keeper ring.items → end_of log.keeper ring.items ≡ end_of w.log.keeper w.ring.items → ring.capacity ≡ w.ring.capacity
       → answers.room ≡ w.answers.room → answers.answered + length answers.waiting ≡ w.answers.answered + length w.answers.waiting
       → (w.answers.posted ≡ w.answers.answered → answers.posted ≡ answers.answered) → answers.posted ≤ acked
       → (acked ≡ w.acked) ⊎ (given ≡ answer.Acked acked)
-      → covers ≡ loaded w.covers tick → (IsTrue honest → LogAdvances file leaves tick w.log log w.ring.items ring.items given)
-      → IsLogging file leaves honest (record w { covers = covers; log = log; ring = ring; answers = answers; acked = acked })
+      → covers ≡ with_number w.covers tick → (IsTrue disk.honest → LogAdvances disk tick w.log log w.ring.items ring.items given)
+      → IsLogging disk (record w { covers = covers; log = log; ring = ring; answers = answers; acked = acked })
   advanced covers tick log ring answers given acked started fits follows end capacity room count posted durable which reported advances = record {
     started = started;
     fits = fits;
@@ -124,7 +127,7 @@ module _ {D : Type 0} (file : D → List ℕ) (leaves : D → List ℕ → Type 
     next_popped item goes = next_of (items_end w.from.items) item w.answers.answered w.answers.waiting goes none_waits is.numbers
 
     pub lost : (item : Item) (from : Popping) (answers : Answering) (over : Bool) → seen.down ≡ true → from.items ≡ w.from.items ++ item ∷ [] → Goes (items_end w.from.items) item
-        → answers ≡ record w.answers { answered = w.answers.answered + length (answers_of item) } → IsLogging file leaves honest (record w { from = from; answers = answers; over = over })
+        → answers ≡ record w.answers { answered = w.answers.answered + length (answers_of item) } → IsLogging disk (record w { from = from; answers = answers; over = over })
     lost item from answers over seen_down popped goes answers_is =
         let down : w.down ≡ true = ap (λ (x : Logging D). x.down) same ∙ seen_down in record {
           started = is.started;
@@ -147,8 +150,8 @@ module _ {D : Type 0} (file : D → List ℕ) (leaves : D → List ℕ → Type 
           durable = subst (λ (a : Answering). a.posted ≤ w.acked) (sym answers_is) is.durable;
           reports = is.reports;
           writes = λ h logs stands.
-              (subst (λ (r : List Record). Writes file leaves w.log w.ring.items w.covers.ticks w.acked w.down (content_in logs) r) (sym (ap records_of popped ∙ records_more w.from.items item))
-              (writes_lost file leaves w.log w.ring.items (record_of item) w.covers.ticks w.acked w.down (content_in logs) (records_of w.from.items) down (is.writes h logs stands)));
+              (subst (λ (r : List Record). Writes disk w.log w.ring.items w.covers.numbers w.acked w.down (content_in logs) r) (sym (ap records_of popped ∙ records_more w.from.items item))
+              (writes_lost disk w.log w.ring.items (record_of item) w.covers.numbers w.acked w.down (content_in logs) (records_of w.from.items) down (is.writes h logs stands)));
         }
 
 -- ---- the items that a turn pops
@@ -160,30 +163,12 @@ no_more_answers (Tick ended ∷ items) = (let rest = no_more_answers items in om
 no_more_answers (Switch n ∷ items) = (let rest = no_more_answers items in omega (arith, rest))
 no_more_answers (Stop ∷ items) = no_more_answers items
 
-pub records_append : (xs ys : List Item) → records_of (xs ++ ys) ≡ records_of xs ++ records_of ys
-records_append [] ys = refl
-records_append (x ∷ xs) ys = ap (λ (l : List Record). record_of x ++ l) (records_append xs ys) ∙ sym (append_assoc (record_of x) (records_of xs) (records_of ys))
-
-pub answers_append : (xs ys : List Item) → all_answers_of (xs ++ ys) ≡ all_answers_of xs ++ all_answers_of ys
-answers_append [] ys = refl
-answers_append (x ∷ xs) ys = ap (λ (l : List Unposted). answers_of x ++ l) (answers_append xs ys) ∙ sym (append_assoc (answers_of x) (all_answers_of xs) (all_answers_of ys))
-
 pub end_append : (xs ys : List Item) → has_stop xs ≡ false → has_stop (xs ++ ys) ≡ has_stop ys
-end_append [] ys none = refl
-end_append (Start n ∷ xs) ys none = end_append xs ys none
-end_append (Tick ended ∷ xs) ys none = end_append xs ys none
-end_append (Switch n ∷ xs) ys none = end_append xs ys none
-end_append (Stop ∷ xs) ys none = absurd (cc)
+end_append xs ys none = list_any-append is_stop xs ys ∙ ap (λ (b : Bool). b || has_stop ys) none
 
 pub over_append : (xs ys : List Item) → is_over xs ≡ false → is_over (xs ++ ys) ≡ has_stop ys
 over_append [] ys none = absurd (cc)
 over_append (x ∷ xs) ys none = end_append (x ∷ xs) ys none
-
-pub one_stop : (x : Item) → has_stop (x ∷ []) ≡ is_stop x
-one_stop (Start n) = refl
-one_stop (Tick ended) = refl
-one_stop (Switch n) = refl
-one_stop Stop = refl
 
 module _ {D : Type 0} where
   pub took_none : (w : Logging D) → Took w w []
@@ -201,10 +186,10 @@ module _ {D : Type 0} where
     end = t.end ∙ s.end;
     ring = t.ring ∙ (ap (λ (b : Buffer Record). let c : Buffer Record = record b { items = b.items ++ records_of ys } in c) s.ring
         ∙ ap (λ (l : List Record). let b : Buffer Record = record u.ring { items = l } in b)
-        (append_assoc u.ring.items (records_of xs) (records_of ys) ∙ ap (λ (l : List Record). u.ring.items ++ l) (sym (records_append xs ys))));
+        (append_assoc u.ring.items (records_of xs) (records_of ys) ∙ ap (λ (l : List Record). u.ring.items ++ l) (sym (flat_map-append record_of xs ys))));
     answers = t.answers ∙ (ap (λ (a : Answering). let b : Answering = record a { waiting = a.waiting ++ all_answers_of ys } in b) s.answers
         ∙ ap (λ (l : List Unposted). let a : Answering = record u.answers { waiting = l } in a)
-        (append_assoc u.answers.waiting (all_answers_of xs) (all_answers_of ys) ∙ ap (λ (l : List Unposted). u.answers.waiting ++ l) (sym (answers_append xs ys))));
+        (append_assoc u.answers.waiting (all_answers_of xs) (all_answers_of ys) ∙ ap (λ (l : List Unposted). u.answers.waiting ++ l) (sym (flat_map-append answers_of xs ys))));
     same = t.same ∙ ap (λ (x : Logging D). let y : Logging D = record x { from = w.from; ring = w.ring; answers = w.answers; over = w.over } in y) s.same;
   }
 
@@ -229,19 +214,19 @@ no_work keeper (records.Switch n ∷ queue) none = absurd (omega (arith, none))
 
 -- ---- the beginning
 
-module _ {D : Type 0} (file : D → List ℕ) (leaves : D → List ℕ → Type 0) (honest : Bool) where
-  ready_switch : (log : Log D) (tick : ℕ) (logs : Logs) → IsReady log.keeper tick → LogStands file leaves log logs → logs.switch ≡ None
+module _ {D : Type 0} (disk : Ghosts D) where
+  ready_switch : (log : Log D) (tick : ℕ) (logs : Logs) → IsReady log.keeper tick → LogStands disk log logs → logs.switch ≡ None
   ready_switch log tick logs ready stands = ap (λ (l : Logs). l.switch) stands.0.is ∙ ap (λ p. switch_in p log.keeper.next_base) ready.phase
 
-  has_first : (log : Log D) (tick : ℕ) (logs : Logs) → IsReady log.keeper tick → LogStands file leaves log logs → HasAcked tick logs
+  has_first : (log : Log D) (tick : ℕ) (logs : Logs) → IsReady log.keeper tick → LogStands disk log logs → HasAcked tick logs
   has_first log tick logs ready stands = record {
     kept = omega (arith, ap (λ (l : Logs). l.base) stands.0.is, ready.base);
     switched = λ number is. absurd (let none = ready_switch log tick logs ready stands in cc);
   }
 
   begins : (from : Popping) (covers reported_down : SignalState) (log : Log D) (tick : ℕ) → from.items ≡ Start tick ∷ []
-      → reported_down.ticks ≡ [] → tick ≤ TICK_MAX → IsReady log.keeper tick → (IsTrue honest → FitsFiles log.keeper (file log.a) (file log.b))
-      → IsLogging file leaves honest (writer_at from covers reported_down log tick)
+      → reported_down.numbers ≡ [] → tick ≤ TICK_MAX → IsReady log.keeper tick → (IsTrue disk.honest → FitsFiles log.keeper (disk.content log.a) (disk.content log.b))
+      → IsLogging disk (writer_at from covers reported_down log tick)
   begins from covers reported_down log tick opened unreported most ready fits =
       let k = log.keeper in
       let last : items_end from.items ≡ record { base = tick; count = 0 } = ap items_end opened in record {
@@ -264,7 +249,7 @@ module _ {D : Type 0} (file : D → List ℕ) (leaves : D → List ℕ → Type 
           given = [];
           lost = [];
           reported = refl;
-          order = subst (λ (all : List Record). LeavesOut covers.ticks all (with_work logs.switch [] ++ [])) (sym (ap records_of opened)) (ap (λ (s : Option ℕ). with_work s [] ++ []) none);
+          order = subst (λ (all : List Record). LeavesOut covers.numbers all (with_work logs.switch [] ++ [])) (sym (ap records_of opened)) (ap (λ (s : Option ℕ). with_work s [] ++ []) none);
           one_job = subst (λ (s : Option ℕ). IfSome s (λ _. logs.pending ≡ [])) (sym none) tt;
           none_lost = λ up. refl;
           acknowledged = inl (has_first log tick logs ready stands);
@@ -272,11 +257,11 @@ module _ {D : Type 0} (file : D → List ℕ) (leaves : D → List ℕ → Type 
       }
 
   pub begins_of : (from : Popping) (covers reported_down : SignalState) (log opening : Log D) (ring : Buffer Record)
-      (answers : Answering) (tick : ℕ) → from.items ≡ Start tick ∷ [] → reported_down.ticks ≡ [] → tick ≤ TICK_MAX
-      → IsReady log.keeper tick → (IsTrue honest → FitsFiles log.keeper (file log.a) (file log.b))
+      (answers : Answering) (tick : ℕ) → from.items ≡ Start tick ∷ [] → reported_down.numbers ≡ [] → tick ≤ TICK_MAX
+      → IsReady log.keeper tick → (IsTrue disk.honest → FitsFiles log.keeper (disk.content log.a) (disk.content log.b))
       → ring ≡ (writer_at from covers reported_down log tick).ring
       → answers ≡ (writer_at from covers reported_down log tick).answers → opening ≡ log
-      → IsLogging file leaves honest (record (writer_at from covers reported_down log tick) { ring = ring; answers = answers; opening = opening })
+      → IsLogging disk (record (writer_at from covers reported_down log tick) { ring = ring; answers = answers; opening = opening })
   begins_of from covers reported_down log opening ring answers tick opened unreported most ready fits ring_is answers_is opening_is =
-      subst (λ (x : Buffer Record × Answering × Log D). IsLogging file leaves honest (record (writer_at from covers reported_down log tick) { ring = x.0; answers = x.1; opening = x.2 }))
+      subst (λ (x : Buffer Record × Answering × Log D). IsLogging disk (record (writer_at from covers reported_down log tick) { ring = x.0; answers = x.1; opening = x.2 }))
       (λ i. (sym ring_is i, sym answers_is i, sym opening_is i)) (begins from covers reported_down log tick opened unreported most ready fits)

@@ -1,33 +1,32 @@
 -- The asks of the pushed ticks.
-use Rattle.std.proofs.Common.{arith, ◌≡◌, inl, inr, ℕ, List, [], ◌∷◌, ◌++◌, All, Option, Some, None, refl, sym, ap, ◌∙◌, subst, append-nil}
-use Rattle.std.specs.Prelude.{Contains, IfSome}
+use Rattle.std.proofs.Common.{arith, ◌≡◌, inl, inr, ℕ, true, List, [], ◌∷◌, ◌++◌, All, Option, Some, None, refl, sym, ap, ◌∙◌, subst, append-nil}
+use Rattle.std.specs.Prelude.{Contains, IfSome, map, flat_map}
+use Rattle.std.proofs.lemmas.Grind.{flat_map-append}
+use Rattle.std.proofs.lemmas.List.{map-append}
+use Rattle.std.proofs.lemmas.List.Quantifiers.{all_pairs_push}
 use Rattle.std.proofs.lemmas.List.Elements.{All-nil, All-push, All-weaker, All-contains, Contains-push, Contains-append_left}
 use Rattle.workers.specs.declared.item.Item.{Item}
 use Rattle.workers.specs.declared.item.Ended.{Ended}
 use Rattle.workers.specs.declared.item.Item.TheVariants.{Start, Tick, Switch, Stop}
-use Rattle.workers.specs.Posts.{AskedBatch}
+use Rattle.workers.specs.declared.item.Owed.{Owed}
+use Rattle.workers.specs.declared.item.Owed.TheVariants as owed
+use Rattle.shared_capture.specs.States.{FrontState}
+use Rattle.workers.specs.Posts.{AskedBatch, Unposted}
 use Rattle.workers.specs.AskOrder.{AreNumbered, IsBefore, AreInTurn, asks_of, PlaysInTurn}
 use Rattle.workers.specs.AskChannel.{Taking, with_ask}
-use Rattle.workers.specs.Channel.{Pushing}
-use Rattle.workers.specs.Mutating.{Playing, Owes, IsMutator, TakesAsk, IsTaken, MarksIfDue}
-use Rattle.workers.proofs.AskOrders.{pairs_push, before_last}
+use Rattle.workers.specs.Mutating.{Playing, item_of, Owes, IsMutator, TakesAsk, IsTaken, MarksIfDue, Pays}
+use Rattle.workers.specs.Answering.{answers_of}
+use Rattle.workers.proofs.AskOrders.{before_last}
 
 asks_append : (xs ys : List Item) → asks_of (xs ++ ys) ≡ asks_of xs ++ asks_of ys
-asks_append [] ys = refl
-asks_append (Start number ∷ xs) ys = asks_append xs ys
-asks_append (Tick ended ∷ xs) ys = ap (λ (l : List AskedBatch). ended.answer.asked ∷ l) (asks_append xs ys)
-asks_append (Switch number ∷ xs) ys = asks_append xs ys
-asks_append (Stop ∷ xs) ys = asks_append xs ys
+asks_append xs ys = ap (map (λ (a : Unposted). a.asked)) (flat_map-append answers_of xs ys) ∙ map-append (λ (a : Unposted). a.asked) (flat_map answers_of xs) (flat_map answers_of ys)
 
 asks_switch : (items : List Item) (number : ℕ) → asks_of (items ++ Switch number ∷ []) ≡ asks_of items
 asks_switch items number = asks_append items (Switch number ∷ []) ∙ append-nil (asks_of items)
 
 asks_stop : (items late : List Item) → asks_of ((items ++ Stop ∷ []) ++ late) ≡ asks_of (items ++ late)
-asks_stop [] late = refl
-asks_stop (Start number ∷ items) late = asks_stop items late
-asks_stop (Tick ended ∷ items) late = ap (λ (l : List AskedBatch). ended.answer.asked ∷ l) (asks_stop items late)
-asks_stop (Switch number ∷ items) late = asks_stop items late
-asks_stop (Stop ∷ items) late = asks_stop items late
+asks_stop items late = asks_append (items ++ Stop ∷ []) late
+    ∙ ap (λ (l : List AskedBatch). l ++ asks_of late) (asks_append items (Stop ∷ []) ∙ append-nil (asks_of items)) ∙ sym (asks_append items late)
 
 plays_as : (taken : List AskedBatch) (items more : List Item) → asks_of more ≡ asks_of items → PlaysInTurn taken items → PlaysInTurn taken more
 plays_as taken items more is plays = record {
@@ -52,7 +51,7 @@ plays_tick taken items ended asked own contains before plays =
     let is : asks_of (items ++ Tick ended ∷ []) ≡ asks_of items ++ asked ∷ [] = asks_append items (Tick ended ∷ []) ∙ ap (λ (a : AskedBatch). asks_of items ++ a ∷ []) own in record {
       numbered = plays.numbered;
       among = subst (All (Contains taken)) (sym is) (All-push (Contains taken) (asks_of items) asked plays.among contains);
-      in_turn = subst AreInTurn (sym is) (pairs_push IsBefore (asks_of items) asked plays.in_turn before);
+      in_turn = subst AreInTurn (sym is) (all_pairs_push IsBefore (asks_of items) asked plays.in_turn before);
     }
 
 plays_more : (taken : List AskedBatch) (items : List Item) (asked : AskedBatch) → AreNumbered (taken ++ asked ∷ []) → PlaysInTurn taken items → PlaysInTurn (taken ++ asked ∷ []) items
@@ -70,13 +69,13 @@ module _ (m : Playing) (asked : AskedBatch) (asks : Taking) (more : asks ≡ wit
   takes_as old is = subst (λ (p : Playing). TakesAsk p asked (record m { asks = asks })) is (ap (λ (t : Taking). let p : Playing = record m { asks = t } in p) more)
 
   module _ (is : IsMutator m) (numbered : AreNumbered (m.asks.taken ++ asked ∷ [])) where
-    owes_more : (owed : Option Item) → IfSome owed (Owes m) → IfSome owed (Owes (record m { asks = with_ask m.asks asked }))
+    owes_more : (owed : Option Owed) → IfSome owed (λ o. Owes m (item_of o)) → IfSome owed (λ o. Owes (record m { asks = with_ask m.asks asked }) (item_of o))
     owes_more None none = tt
-    owes_more (Some item) owes = record {
+    owes_more (Some o) owes = record {
       stopped = owes.stopped;
       goes = owes.goes;
       leads = owes.leads;
-      in_turn = plays_more m.asks.taken (m.to.items ++ item ∷ []) asked numbered owes.in_turn;
+      in_turn = plays_more m.asks.taken (m.to.items ++ item_of o ∷ []) asked numbered owes.in_turn;
       rising = owes.rising;
     }
 
@@ -99,13 +98,19 @@ module _ (m : Playing) (asked : AskedBatch) (asks : Taking) (more : asks ≡ wit
           (λ a taken. All-contains (λ (e : AskedBatch). IsBefore e asked) m.asks.taken a (before_last [] m.asks.taken asked numbered) taken) (asks_of m.to.items) is.in_turn.among,
     )
 
+abbrev SameAsks : (old new : Playing) → Type 0
+SameAsks old new = (new.asks.taken ≡ old.asks.taken) × (asks_of new.to.items ≡ asks_of old.to.items)
+
+switch_paid : (old new : Playing) (front : FrontState) → Pays (record old { front = front; stopped = true; owed = Some (owed.Switch old.ended) }) new → SameAsks old new
+switch_paid old new front (inl is) = (ap (λ (m : Playing). m.asks.taken) is, ap (λ (m : Playing). asks_of m.to.items) is ∙ asks_switch old.to.items old.ended)
+switch_paid old new front (inr is) = (ap (λ (m : Playing). m.asks.taken) is, ap (λ (m : Playing). asks_of m.to.items) is)
+
 -- a mark plays no ask
+mark_plays_none : (old new : Playing) → MarksIfDue old new → SameAsks old new
+mark_plays_none old new (inl (inl kept)) = (ap (λ (m : Playing). m.asks.taken) kept.0, ap (λ (m : Playing). asks_of m.to.items) kept.0)
+mark_plays_none old new (inl (inr found)) = (ap (λ (m : Playing). m.asks.taken) found.0, ap (λ (m : Playing). asks_of m.to.items) found.0)
+mark_plays_none old new (inr (opened, owes, pays)) = switch_paid old new opened.front (subst (λ (m : Playing). Pays m new) owes.2 pays)
+
 pub marks_taken : (old new : Playing) (asked : AskedBatch) → MarksIfDue old new → IsTaken old asked → IsTaken new asked
-marks_taken old new asked marks taken =
-    (subst (λ (l : List AskedBatch). Contains l asked) (sym (same marks).0) taken.0, subst (All (λ (e : AskedBatch). IsBefore e asked)) (sym (same marks).1) taken.1)
-  where
-    same : MarksIfDue old new → (new.asks.taken ≡ old.asks.taken) × (asks_of new.to.items ≡ asks_of old.to.items)
-    same (inl kept) = (ap (λ (m : Playing). m.asks.taken) kept.0, ap (λ (m : Playing). asks_of m.to.items) kept.0)
-    same (inr (inl found)) = (ap (λ (m : Playing). m.asks.taken) found.0, ap (λ (m : Playing). asks_of m.to.items) found.0)
-    same (inr (inr (inl marked))) = (ap (λ (m : Playing). m.asks.taken) marked.0, ap (λ (t : Pushing). asks_of t.items) marked.2 ∙ asks_switch old.to.items old.ended)
-    same (inr (inr (inr lost))) = (ap (λ (m : Playing). m.asks.taken) lost.0, ap (λ (m : Playing). asks_of m.to.items) lost.0)
+marks_taken old new asked marks taken = let same = mark_plays_none old new marks in
+    (subst (λ (l : List AskedBatch). Contains l asked) (sym same.0) taken.0, subst (All (λ (e : AskedBatch). IsBefore e asked)) (sym same.1) taken.1)

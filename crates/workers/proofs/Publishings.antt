@@ -7,11 +7,12 @@ use Rattle.file_format.specs.declared.slot.Slot.{Slot}
 use Rattle.image_files.specs.declared.phase.Phase.TheVariants.{Idle}
 use Rattle.image_files.specs.Progress.{Progress, newest_tick}
 use Rattle.shared_capture.specs.declared.view.Snapshot.{Snapshot}
-use Rattle.shared_capture.specs.SignalWord.{SignalState}
+use Rattle.shared_capture.specs.SignalWord.{SignalState, with_number}
 use Rattle.shared_capture.specs.States.{BackState}
 use Rattle.workers.specs.declared.checkpointer.round.ImageWriter.{ImageWriter}
 use Rattle.workers.specs.Imaging.{newest_after, HasRound, RoundRuns, Publishes, AreInStep, FollowsRounds, WriterFits, Imaging, IsCheckpointer}
-use Rattle.workers.specs.Publishing.{reported, ArePublished}
+use Rattle.workers.specs.Publishing.{ArePublished}
+use Rattle.disk_model.specs.declared.disk.Disk.{Ghosts}
 use Rattle.workers.proofs.Imagings.{newest_more, is_idle, checkpointer_goes_on}
 
 -- the same rounds are done
@@ -23,16 +24,16 @@ pub publishes_none : (tick : ℕ) (keeper : Progress) (covers : SignalState) →
 publishes_none tick keeper covers busy = record { in_work = λ _. refl; done = λ over. absurd (busy over) }
 
 done_next : (tick : ℕ) (newest opened newest' : Option (Slot × ℕ)) (done done' : List Snapshot) (covers covers' : SignalState) → ArePublished newest done covers → newest_tick newest < tick
-    → newest' ≡ newest_after opened done' → (s : Snapshot) → s.tick ≡ tick → done' ≡ done ++ s ∷ [] → covers' ≡ reported covers tick → ArePublished newest' done' covers'
+    → newest' ≡ newest_after opened done' → (s : Snapshot) → s.tick ≡ tick → done' ≡ done ++ s ∷ [] → covers' ≡ with_number covers tick → ArePublished newest' done' covers'
 done_next tick newest opened newest' done done' covers covers' p newer last s of_it more is =
-    let ticks : covers'.ticks ≡ covers.ticks ++ tick ∷ [] = ap (λ (c : SignalState). c.ticks) is in
+    let ticks : covers'.numbers ≡ covers.numbers ++ tick ∷ [] = ap (λ (c : SignalState). c.numbers) is in
     let newest_is : newest_tick newest' ≡ tick = ap newest_tick (last ∙ (ap (newest_after opened) more ∙ newest_more opened done s)) ∙ of_it in
-    let few : All (λ (t : ℕ). t ≤ newest_tick newest') covers.ticks =
-    All-weaker (λ (t : ℕ). t ≤ newest_tick newest) (λ (t : ℕ). t ≤ newest_tick newest') (λ t h. omega (arith, h, newer, newest_is)) covers.ticks p.older in
+    let few : All (λ (t : ℕ). t ≤ newest_tick newest') covers.numbers =
+    All-weaker (λ (t : ℕ). t ≤ newest_tick newest) (λ (t : ℕ). t ≤ newest_tick newest') (λ t h. omega (arith, h, newer, newest_is)) covers.numbers p.older in
     record {
       are = ticks ∙ (ap (λ (l : List ℕ). l ++ tick ∷ []) p.are ∙ (ap (λ (n : ℕ). map (λ (x : Snapshot). x.tick) done ++ n ∷ []) (sym of_it)
           ∙ (sym (map-append (λ (x : Snapshot). x.tick) done (s ∷ [])) ∙ ap (map (λ (x : Snapshot). x.tick)) (sym more))));
-      older = subst (All (λ (t : ℕ). t ≤ newest_tick newest')) (sym ticks) (All-push (λ (t : ℕ). t ≤ newest_tick newest') covers.ticks tick few (omega (arith, newest_is)));
+      older = subst (All (λ (t : ℕ). t ≤ newest_tick newest')) (sym ticks) (All-push (λ (t : ℕ). t ≤ newest_tick newest') covers.numbers tick few (omega (arith, newest_is)));
     }
 
 -- after a round the ticks of all rounds that are done are published, and no other
@@ -54,23 +55,23 @@ published_on true tick newest opened keeper old found new covers covers' p newer
 
 -- ---- a step of the round in work
 
-module _ {D : Type 0} (file : D → List ℕ) (leaves : D → List ℕ → Type 0) (honest : Bool) where
-  pub checkpointer_steps : (old : Imaging D) (number : ℕ) (found : BackState) (next : Imaging D) → IsCheckpointer honest file leaves old → HasRound old.images.keeper
+module _ {D : Type 0} (disk : Ghosts D) where
+  pub checkpointer_steps : (old : Imaging D) (number : ℕ) (found : BackState) (next : Imaging D) → IsCheckpointer disk old → HasRound old.images.keeper
       → found ≡ old.back → old.back.now.tick ≡ number → next.opening ≡ old.opening
-      → AreInStep next.images.keeper next.back → (IsTrue honest → WriterFits file next.images) → FollowsRounds file leaves honest old.opening next.images next.back
-      → RoundRuns found next.images.keeper next.back → Publishes number next.images.keeper old.covers next.covers → IsCheckpointer honest file leaves next
+      → AreInStep next.images.keeper next.back → (IsTrue disk.honest → WriterFits disk next.images) → FollowsRounds disk old.opening next.images next.back
+      → RoundRuns found next.images.keeper next.back → Publishes number next.images.keeper old.covers next.covers → IsCheckpointer disk next
   checkpointer_steps old number found next is busy same tick opening step fits follows runs publishes =
       let keeper = next.images.keeper in
       let done : found.done ≡ old.back.done = ap (λ (b : BackState). b.done) same in
       let at : found.now.tick ≡ number = ap (λ (b : BackState). b.now.tick) same ∙ tick in
       let newer : newest_tick old.images.keeper.newest < number = (let e = is.newer busy in omega (arith, e, tick)) in
-      let on : FollowsRounds file leaves honest next.opening next.images next.back = subst (λ (o : ImageWriter D). FollowsRounds file leaves honest o next.images next.back) (sym opening) follows in
+      let on : FollowsRounds disk next.opening next.images next.back = subst (λ (o : ImageWriter D). FollowsRounds disk o next.images next.back) (sym opening) follows in
       let published : ArePublished keeper.newest next.back.done next.covers = elim (is_idle keeper.phase) [
         | inl idle ↦ published_on false number old.images.keeper.newest old.opening.keeper.newest keeper old.back found next.back
             old.covers next.covers is.published newer is.follows.newest follows.newest done at runs publishes (λ _. idle) (λ e. absurd (cc e))
         | inr work ↦ published_on true number old.images.keeper.newest old.opening.keeper.newest keeper old.back found next.back
             old.covers next.covers is.published newer is.follows.newest follows.newest done at runs publishes (λ e. absurd (cc e)) (λ _. work)
       ] in
-      checkpointer_goes_on file leaves honest next found step (ap (λ (o : ImageWriter D). o.keeper.cells) opening ∙ (is.cells ∙ sym (ap (λ (b : BackState). b.cells) same))) fits on runs published
+      checkpointer_goes_on disk next found step (ap (λ (o : ImageWriter D). o.keeper.cells) opening ∙ (is.cells ∙ sym (ap (λ (b : BackState). b.cells) same))) fits on runs published
       old.images.keeper.newest
       (is.follows.newest ∙ (ap (λ (o : ImageWriter D). newest_after o.keeper.newest old.back.done) (sym opening) ∙ ap (newest_after next.opening.keeper.newest) (sym done))) (omega (arith, newer, at))

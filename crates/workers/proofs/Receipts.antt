@@ -6,15 +6,10 @@ use Rattle.action_log.specs.declared.answer.LogAnswer.TheVariants as answer
 use Rattle.action_log.specs.declared.phase.Phase.{Phase}
 use Rattle.action_log.specs.declared.phase.Phase.TheVariants as phase
 use Rattle.action_log.specs.declared.record.Record.{Record}
-use Rattle.shared_capture.specs.SignalWord.{SignalState}
+use Rattle.shared_capture.specs.SignalWord.{SignalState, with_number}
 use Rattle.workers.specs.declared.log_writer.Log.{Log}
 use Rattle.workers.specs.Answering.{Answering}
-use Rattle.workers.specs.Covering.{loaded}
 use Rattle.workers.specs.Logging.{Logging, receipt_in, receipt_at, receipt_by, receipt_of, Acknowledges}
-
-pub not_true : (b : Bool) → (b ≡ true → ⊥) → b ≡ false
-not_true true other = absurd (other refl)
-not_true false other = refl
 
 no_receipt : (given : LogAnswer) → ((tick : ℕ) → given ≡ answer.Acked tick → ⊥) → receipt_in given ≡ None
 no_receipt (answer.Acked tick) never = absurd (never tick refl)
@@ -47,12 +42,12 @@ cover_receipt answer.Down p last some = refl
 
 -- A step of the log with this receipt acknowledges what it posts.
 pub acknowledged : {D : Type 0} (seen w : Logging D) → w ≡ seen → (covers : SignalState) (tick : ℕ) (log : Log D)
-    (ring : Buffer Record) (answers : Answering) (acked : ℕ) → covers ≡ loaded w.covers tick
+    (ring : Buffer Record) (answers : Answering) (acked : ℕ) → covers ≡ with_number w.covers tick
     → (receipt : Option ℕ) → receipt ≡ receipt_of w.log.keeper tick w.ring.items log.keeper
     → Acknowledges receipt w (record w { covers = covers; log = log; ring = ring; answers = answers; acked = acked })
-    → (cover : ℕ) × (covers ≡ loaded seen.covers cover)
+    → (cover : ℕ) × (covers ≡ with_number seen.covers cover)
     × Acknowledges (receipt_of seen.log.keeper cover seen.ring.items log.keeper) seen (record w { covers = covers; log = log; ring = ring; answers = answers; acked = acked })
 acknowledged {D} seen w same covers tick log ring answers acked reported receipt is acks =
-    subst (λ (x : Logging D). (cover : ℕ) × (covers ≡ loaded x.covers cover)
+    subst (λ (x : Logging D). (cover : ℕ) × (covers ≡ with_number x.covers cover)
     × Acknowledges (receipt_of x.log.keeper cover x.ring.items log.keeper) x (record w { covers = covers; log = log; ring = ring; answers = answers; acked = acked })) same
     (tick, reported, subst (λ (r : Option ℕ). Acknowledges r w (record w { covers = covers; log = log; ring = ring; answers = answers; acked = acked })) is acks)

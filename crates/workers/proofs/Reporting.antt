@@ -22,6 +22,7 @@ use Rattle.workers.specs.declared.log_writer.Log.{Log}
 use Rattle.action_log.specs.Cover.{Covers, CoverStep}
 use Rattle.workers.specs.Covering.{LeavesOut, IsCovered, Advances}
 use Rattle.workers.specs.Logging.{LogContent, after_record, after_records, content_in, HasOneJob, HasAcked, LogStands, Writes}
+use Rattle.disk_model.specs.declared.disk.Disk.{Ghosts}
 use Rattle.workers.proofs.Coverings.{leaves_more, leaves_later, covered_later, cover_leaves}
 
 pub after_append : (reported : LogContent) (xs ys : List Record) → after_records reported (xs ++ ys) ≡ after_records (after_records reported xs) ys
@@ -203,17 +204,17 @@ step_order covers all given taken queue left lost front order =
 
 -- ---- the written records
 
-module _ {D : Type 0} (file : D → List ℕ) (leaves : D → List ℕ → Type 0) where
+module _ {D : Type 0} (disk : Ghosts D) where
   -- the effect of an advance by this tick on the log that keeper and files represent
   abbrev pub LogAdvances : (tick : ℕ) → (log after : Log D) → (ring left : List Record) → LogAnswer → Type 0
-  LogAdvances tick log after ring left given = (logs : Logs) → LogStands file leaves log logs → (next : Logs) × LogStands file leaves after next × Advances tick logs ring given next left
+  LogAdvances tick log after ring left given = (logs : Logs) → LogStands disk log logs → (next : Logs) × LogStands disk after next × Advances tick logs ring given next left
 
-  stepped_acked : (log : Log D) (logs next : Logs) (ring left : List Record) (given : LogAnswer) (covers : List ℕ) (acked acked' : ℕ) → QueueFollows log.keeper ring → LogStands file leaves log logs
+  stepped_acked : (log : Log D) (logs next : Logs) (ring left : List Record) (given : LogAnswer) (covers : List ℕ) (acked acked' : ℕ) → QueueFollows log.keeper ring → LogStands disk log logs
       → (acked' ≡ acked) ⊎ (given ≡ answer.Acked acked') → LogsStep logs ring given next left → Acknowledged covers acked logs → Acknowledged covers acked' next
   stepped_acked log logs next ring left given covers acked acked' follows stands (inr now) step was =
       inl (now_acked acked' logs ring next left (subst (λ (g : LogAnswer). LogsStep logs ring g next left) now step))
   stepped_acked log logs next ring left given covers acked acked' follows stands (inl same) step (inl has) =
-      let fits = switch_fits log.keeper (file log.a) (file log.b) (leaves log.a) (leaves log.b) logs ring stands.0 follows in
+      let fits = switch_fits log.keeper (disk.content log.a) (disk.content log.b) (disk.may_leave log.a) (disk.may_leave log.b) logs ring stands.0 follows in
       inl (subst (λ k. HasAcked k next) (sym same) (step_acked acked logs ring given next left fits step has))
   stepped_acked log logs next ring left given covers acked acked' follows stands (inl same) step (inr is) = inr (subst (IsCovered covers) (sym same) is)
 
@@ -227,8 +228,8 @@ module _ {D : Type 0} (file : D → List ℕ) (leaves : D → List ℕ → Type 
 
   -- the written records with other loaded ticks, and another acknowledged tick
   abbrev written_as : {log : Log D} {ring : List Record} {covers reported : List ℕ} {acked tick : ℕ} {down : Bool}
-      {first : LogContent} {all : List Record} (w : Writes file leaves log ring covers acked down first all)
-      → LeavesOut reported all (w.given ++ (with_work w.logs.switch ring ++ w.lost)) → Acknowledged reported tick w.logs → Writes file leaves log ring reported tick down first all
+      {first : LogContent} {all : List Record} (w : Writes disk log ring covers acked down first all)
+      → LeavesOut reported all (w.given ++ (with_work w.logs.switch ring ++ w.lost)) → Acknowledged reported tick w.logs → Writes disk log ring reported tick down first all
   written_as w order acknowledged = record {
     logs = w.logs;
     stands = w.stands;
@@ -243,15 +244,15 @@ module _ {D : Type 0} (file : D → List ℕ) (leaves : D → List ℕ → Type 
 
   -- more ticks of open images are loaded
   abbrev written_later : (log : Log D) (ring : List Record) (covers later : List ℕ) (acked : ℕ) (down : Bool) (first : LogContent)
-      (all : List Record) → Writes file leaves log ring covers acked down first all → Writes file leaves log ring (covers ++ later) acked down first all
+      (all : List Record) → Writes disk log ring covers acked down first all → Writes disk log ring (covers ++ later) acked down first all
   written_later log ring covers later acked down first all w = written_as w (leaves_later covers later all (w.given ++ (with_work w.logs.switch ring ++ w.lost)) w.order)
       (elim w.acknowledged [ inl has ↦ inl has | inr is ↦ inr (covered_later covers later acked is) ])
 
   advanced : (log after : Log D) (ring left : List Record) (tick : ℕ) (covers : List ℕ) (given : LogAnswer) (acked acked' : ℕ)
       (down : Bool) (first : LogContent) (all : List Record) → QueueFollows log.keeper ring → Contains covers tick
-      → (acked' ≡ acked) ⊎ (given ≡ answer.Acked acked') → (w : Writes file leaves log ring covers acked down first all)
-      → (next : Logs) → LogStands file leaves after next → Advances tick w.logs ring given next left
-      → Writes file leaves after left covers acked' down first all
+      → (acked' ≡ acked) ⊎ (given ≡ answer.Acked acked') → (w : Writes disk log ring covers acked down first all)
+      → (next : Logs) → LogStands disk after next → Advances tick w.logs ring given next left
+      → Writes disk after left covers acked' down first all
   advanced log after ring left tick covers given acked acked' down first all follows at which w next stands (inl step) =
       let taken = step_reported w.logs ring given next left step w.one_job in
       record {
@@ -282,7 +283,7 @@ module _ {D : Type 0} (file : D → List ℕ) (leaves : D → List ℕ → Type 
   pub writes_on : (log after : Log D) (ring left : List Record) (tick : ℕ) (covers : List ℕ) (given : LogAnswer)
       (acked acked' : ℕ) (down : Bool) (first : LogContent) (all : List Record) → QueueFollows log.keeper ring
       → (acked' ≡ acked) ⊎ (given ≡ answer.Acked acked') → LogAdvances tick log after ring left given
-      → Writes file leaves log ring covers acked down first all → Writes file leaves after left (covers ++ tick ∷ []) acked' down first all
+      → Writes disk log ring covers acked down first all → Writes disk after left (covers ++ tick ∷ []) acked' down first all
   writes_on log after ring left tick covers given acked acked' down first all follows which advances w =
       let reported = written_later log ring covers (tick ∷ []) acked down first all w in
       let on = advances w.logs w.stands in
@@ -290,7 +291,7 @@ module _ {D : Type 0} (file : D → List ℕ) (leaves : D → List ℕ → Type 
 
   -- if the ticks up to one are acknowledged, so are those up to an earlier one
   pub writes_below : (log : Log D) (ring : List Record) (covers : List ℕ) (acked fewer : ℕ) (down : Bool) (first : LogContent)
-      (all : List Record) → fewer ≤ acked → Writes file leaves log ring covers acked down first all → Writes file leaves log ring covers fewer down first all
+      (all : List Record) → fewer ≤ acked → Writes disk log ring covers acked down first all → Writes disk log ring covers fewer down first all
   writes_below log ring covers acked fewer down first all few w = written_as w w.order (elim w.acknowledged [
     | inl logged ↦ inl (record { kept = omega (arith, few, logged.kept); switched = λ number is. let later = logged.switched number is in omega (arith, few, later) })
     | inr covered ↦ inr (covered.0, covered.1, omega (arith, few, covered.2))
@@ -298,7 +299,7 @@ module _ {D : Type 0} (file : D → List ℕ) (leaves : D → List ℕ → Type 
 
   -- one more record is queued
   pub writes_more : (log : Log D) (ring more : List Record) (covers : List ℕ) (acked : ℕ) (down : Bool) (first : LogContent)
-      (all : List Record) → down ≡ false → Writes file leaves log ring covers acked down first all → Writes file leaves log (ring ++ more) covers acked down first (all ++ more)
+      (all : List Record) → down ≡ false → Writes disk log ring covers acked down first all → Writes disk log (ring ++ more) covers acked down first (all ++ more)
   writes_more log ring more covers acked down first all up w = record {
     logs = w.logs;
     stands = w.stands;
@@ -318,7 +319,7 @@ module _ {D : Type 0} (file : D → List ℕ) (leaves : D → List ℕ → Type 
 
   -- one more record is lost
   pub writes_lost : (log : Log D) (ring more : List Record) (covers : List ℕ) (acked : ℕ) (down : Bool) (first : LogContent)
-      (all : List Record) → down ≡ true → Writes file leaves log ring covers acked down first all → Writes file leaves log ring covers acked down first (all ++ more)
+      (all : List Record) → down ≡ true → Writes disk log ring covers acked down first all → Writes disk log ring covers acked down first (all ++ more)
   writes_lost log ring more covers acked down first all is_down w = record {
     logs = w.logs;
     stands = w.stands;

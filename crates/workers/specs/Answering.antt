@@ -1,5 +1,5 @@
 -- The waiting answers as contracts see them.
-use Rattle.std.specs.Prelude.{◌≡◌, ℕ, ◌+◌, ◌≤◌, ◌<◌, List, [], ◌∷◌, ◌++◌, length, All, ⊤}
+use Rattle.std.specs.Prelude.{◌≡◌, ℕ, ◌+◌, ◌≤◌, ◌<◌, List, [], ◌∷◌, ◌++◌, length, All, flat_map, ⊤}
 use Rattle.workers.specs.declared.item.Item.{Item}
 use Rattle.workers.specs.declared.item.Item.TheVariants.{Tick}
 use Rattle.workers.specs.Posts.{Unposted}
@@ -18,8 +18,7 @@ answers_of (Tick ended) = ended.answer ∷ []
 answers_of item = []
 
 abbrev pub all_answers_of : List Item → List Unposted
-all_answers_of [] = []
-all_answers_of (item ∷ items) = answers_of item ++ all_answers_of items
+all_answers_of items = flat_map answers_of items
 
 -- these answer the ticks after this one, in order and without a gap
 abbrev pub AreNext : ℕ → List Unposted → Type 0

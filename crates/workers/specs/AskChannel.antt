@@ -30,7 +30,7 @@ pub record IsNumbering (end : AskSendEnd) (pass : Pass AskedBatch AskView) (next
   pub at : IsSeatAt (sends_on end.end) pass
   pub numbers : view pass ≡ Numbers next
 
--- the session of this number sent so many asks
+-- the session of this number sent this number of asks
 pub record IsSession (end : AskSendEnd) (pass : Pass AskedBatch AskView)
     (session asked : ℕ) : Type 0 where
   pub at : IsSeatAt (sends_on end.end) pass

@@ -31,10 +31,6 @@ abbrev pub Advances : ℕ → Logs → List Record → LogAnswer → Logs → Li
 Advances tick logs queue given next left =
     LogsStep logs queue given next left ⊎ ((next ≡ logs) × CoverStep logs queue tick given left)
 
--- the word of open images was loaded, and held this tick
-abbrev pub loaded : SignalState → ℕ → SignalState
-loaded covers tick = record covers { ticks = covers.ticks ++ tick ∷ [] }
-
 -- it was loaded any number of times more
 abbrev pub LoadsOn : SignalState → SignalState → Type 0
-LoadsOn old new = (more : List ℕ) × (new ≡ record old { ticks = old.ticks ++ more })
+LoadsOn old new = (more : List ℕ) × (new ≡ record old { numbers = old.numbers ++ more })

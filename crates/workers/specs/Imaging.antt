@@ -1,22 +1,23 @@
 -- The checkpointer as contracts see it: its images are those of the rounds that its back has done.
 use Rattle.std.specs.Prelude.{◌≡◌, ◌≢◌, ◌⊎◌, ℕ, ◌<◌, Bool, true, false, IsTrue, All, List, [], ◌∷◌}
 use Rattle.std.specs.Prelude.{◌++◌, length, Option, Some}
+use Rattle.disk_model.specs.declared.disk.Disk.{Ghosts}
 use Rattle.disk_model.specs.Disk.{FaultsBy}
 use Rattle.file_format.specs.declared.slot.Slot.{Slot}
 use Rattle.image_files.specs.declared.phase.Phase.{Phase}
 use Rattle.image_files.specs.declared.phase.Phase.TheVariants.{Idle, Taking, Down}
 use Rattle.image_files.specs.Images.{Round, ImageFiles, NoneYet, Newest, with_opened}
-use Rattle.image_files.specs.Files.{FitsFiles, Stands}
+use Rattle.image_files.specs.Files.{FitsFiles, DisksStand}
 use Rattle.image_files.specs.Progress.{Progress, target_of, cells_taken, begun_keeper, newest_tick}
 use Rattle.image_files.specs.Taken.{filled_words}
 use Rattle.restart.specs.Rounds.{words_of}
 use Rattle.shared_capture.specs.declared.view.Snapshot.{Snapshot}
 use Rattle.shared_capture.specs.States.{BackState, SameDone, FoundNone, FoundRound}
-use Rattle.shared_capture.specs.SignalWord.{SignalState}
+use Rattle.shared_capture.specs.SignalWord.{SignalState, with_number}
 use Rattle.workers.specs.declared.gate.Place.{Place}
 use Rattle.workers.specs.declared.gate.Place.TheVariants.{Take, Device}
 use Rattle.workers.specs.declared.checkpointer.round.ImageWriter.{ImageWriter}
-use Rattle.workers.specs.Publishing.{IsNoneDue, reported, ArePublished}
+use Rattle.workers.specs.Publishing.{IsNoneDue, ArePublished}
 
 -- ---- the images of rounds
 
@@ -74,7 +75,7 @@ IsInWork old tick new = (new.working ≡ true) × (new.now.tick ≡ tick) × (ne
 -- a round's tick is published once the keeper has no round any more, and not before
 pub record Publishes (tick : ℕ) (keeper : Progress) (old new : SignalState) : Type 0 where
   pub in_work : HasRound keeper → new ≡ old
-  pub done : keeper.phase ≡ Idle → new ≡ reported old tick
+  pub done : keeper.phase ≡ Idle → new ≡ with_number old tick
 
 -- A round stays in work as long as the keeper has one, and is done once the keeper has none. The
 -- pair, the number of cells and the loads of the phase stay the same.
@@ -85,12 +86,11 @@ pub record RoundRuns (old : BackState) (keeper : Progress) (new : BackState) : T
 
 -- ---- keeper, files and back
 
-module _ {D : Type 0} (file : D → List ℕ) (leaves : D → List ℕ → Type 0) where
+module _ {D : Type 0} (disk : Ghosts D) where
   -- the keeper and its files represent these images
   abbrev pub ImagesStand : ImageWriter D → ImageFiles → Type 0
   ImagesStand writer images =
-      Stands writer.keeper images (file writer.image_a) (file writer.image_b)
-      (leaves writer.image_a) (leaves writer.image_b)
+      DisksStand disk writer.keeper images writer.image_a writer.image_b
 
   -- they represent the images of the rounds that the back has done since the first ones, and
   -- its round in work
@@ -102,16 +102,16 @@ module _ {D : Type 0} (file : D → List ℕ) (leaves : D → List ℕ → Type 
 
   -- Each round that is done since the opening had all its cells taken and its image opened. On an
   -- honest disk the files have exactly these images.
-  pub record FollowsRounds (honest : Bool) (opening : ImageWriter D) (writer : ImageWriter D)
-      (back : BackState) : Type 0 where
+  pub record FollowsRounds (opening writer : ImageWriter D) (back : BackState) : Type 0 where
     pub newest : writer.keeper.newest ≡ newest_after opening.keeper.newest back.done
     pub whole : All (λ (s : Snapshot). length s.taken ≡ back.cells) back.done
-    pub stands : IsTrue honest → (first : ImageFiles) → ImagesStand opening first
+    pub stands : IsTrue disk.honest → (first : ImageFiles) → ImagesStand opening first
         → StandAfter first writer back
 
 -- the keeper's state fits what the files hold
-abbrev pub WriterFits : {D : Type 0} → (D → List ℕ) → ImageWriter D → Type 0
-WriterFits file writer = FitsFiles writer.keeper (file writer.image_a) (file writer.image_b)
+abbrev pub WriterFits : {D : Type 0} → Ghosts D → ImageWriter D → Type 0
+WriterFits disk writer =
+    FitsFiles writer.keeper (disk.content writer.image_a) (disk.content writer.image_b)
 
 -- the keeper is down only by a failed call of a device, and no failure is passed over
 pub record ReportsFaults {D : Type 0} (faults : D → ℕ) (old new : ImageWriter D) : Type 0 where
@@ -140,12 +140,11 @@ IsAtRest keeper back = (keeper.phase ≡ Idle) × (back.working ≡ false)
 -- Keeper, files and back are in step, with as many cells as at the opening. The images of the
 -- rounds that are done are published. No cell is taken of a round that the keeper hasn't begun. A
 -- round that it has begun is newer than its newest image.
-pub record IsCheckpointer {D : Type 0} (honest : Bool) (file : D → List ℕ)
-    (leaves : D → List ℕ → Type 0) (c : Imaging D) : Type 0 where
+pub record IsCheckpointer {D : Type 0} (disk : Ghosts D) (c : Imaging D) : Type 0 where
   pub step : AreInStep c.images.keeper c.back
   pub cells : c.opening.keeper.cells ≡ c.back.cells
-  pub fits : IsTrue honest → WriterFits file c.images
-  pub follows : FollowsRounds file leaves honest c.opening c.images c.back
+  pub fits : IsTrue disk.honest → WriterFits disk c.images
+  pub follows : FollowsRounds disk c.opening c.images c.back
   pub published : ArePublished c.images.keeper.newest c.back.done c.covers
   pub fresh : c.images.keeper.phase ≡ Idle → c.back.working ≡ true → c.back.now.taken ≡ []
   pub newer : HasRound c.images.keeper → newest_tick c.images.keeper.newest < c.back.now.tick

@@ -1,5 +1,5 @@
 -- The items that go from the mutator to the log writer.
-use Rattle.std.specs.Prelude.{◌≡◌, ◌+◌, ◌<◌, ◌≤◌, List, [], ◌∷◌, ◌++◌, ⊤}
+use Rattle.std.specs.Prelude.{◌≡◌, ◌+◌, ◌<◌, ◌≤◌, List, [], ◌∷◌, flat_map, ⊤}
 use Rattle.world_ticks.specs.declared.tick.TheConstants.{TICK_MAX}
 use Rattle.action_log.specs.declared.format.TheConstants.{SEGMENT_TICKS}
 use Rattle.action_log.specs.declared.record.Record.{Record}
@@ -15,11 +15,10 @@ record_of (Switch number) = records.Switch number ∷ []
 record_of item = []
 
 abbrev pub records_of : List Item → List Record
-records_of [] = []
-records_of (item ∷ items) = record_of item ++ records_of items
+records_of items = flat_map record_of items
 
--- An item may follow so many ticks since this base. No segment gets too many ticks, and a tick
--- has the next number. A switch has the number of the last tick, which ended since the last
+-- An item may follow this number of ticks since this base. No segment gets too many ticks, and a
+-- tick has the next number. A switch has the number of the last tick, which ended since the last
 -- switch or start.
 abbrev pub Goes : QueueEnd → Item → Type 0
 Goes end (Start number) = ⊥

@@ -1,7 +1,9 @@
 -- The log writer as contracts see it.
 use Rattle.std.specs.Prelude.{◌≡◌, ◌⊎◌, ℕ, ◌+◌, ◌<◌, ◌≤◌, max, Bool, true, false, IsTrue, List, []}
 use Rattle.std.specs.Prelude.{◌∷◌, ◌++◌, length, Option, Some, None, IfSome}
+use Rattle.std.specs.List.{list_any}
 use Rattle.world_ticks.specs.declared.tick.TheConstants.{TICK_MAX}
+use Rattle.disk_model.specs.declared.disk.Disk.{Ghosts}
 use Rattle.disk_model.specs.Disk.{FaultsBy}
 use Rattle.circular_buffer.specs.Buffer.{Buffer}
 use Rattle.action_log.specs.declared.record.Record.{Record}
@@ -16,9 +18,9 @@ use Rattle.action_log.specs.Cover.{cover_answer}
 use Rattle.action_log.specs.Progress.{QueueFollows, end_of, work_of}
 use Rattle.action_log.specs.Logs.{Logs, Writing}
 use Rattle.action_log.specs.Files.{FitsFiles}
-use Rattle.action_log.specs.Stands.{Stands}
+use Rattle.action_log.specs.Stands.{DisksStand}
 use Rattle.recovery.specs.Events.{with_work}
-use Rattle.shared_capture.specs.SignalWord.{SignalState}
+use Rattle.shared_capture.specs.SignalWord.{SignalState, with_number}
 use Rattle.workers.specs.declared.item.Item.{Item}
 use Rattle.workers.specs.declared.item.Item.TheVariants as items
 use Rattle.workers.specs.declared.log_writer.Log.{Log}
@@ -27,7 +29,6 @@ use Rattle.workers.specs.Items.{items_end, records_of}
 use Rattle.workers.specs.Channel.{Popping}
 use Rattle.workers.specs.Answering.{Answering, Posts, AreLater, answers_of, all_answers_of}
 use Rattle.workers.specs.Covering.{LeavesOut, IsCovered}
-use Rattle.workers.specs.Publishing.{reported as with_reported}
 
 -- true if the item is the last one
 abbrev pub is_stop : Item → Bool
@@ -36,9 +37,7 @@ is_stop item = false
 
 -- true if the last one is among these
 abbrev pub has_stop : List Item → Bool
-has_stop [] = false
-has_stop (items.Stop ∷ more) = true
-has_stop (item ∷ more) = has_stop more
+has_stop items = list_any is_stop items
 
 -- true if a turn that popped these was the last one: the last item is among them, or
 -- a pop was refused
@@ -148,12 +147,11 @@ pub record IsPosted {D : Type 0} (w : Logging D) : Type 0 where
 abbrev pub ReportsDown : Bool → List ℕ → Type 0
 ReportsDown down reported = (down ≡ false → reported ≡ []) × (down ≡ true → reported ≡ 1 ∷ [])
 
-module _ {D : Type 0} (file : D → List ℕ) (leaves : D → List ℕ → Type 0) where
+module _ {D : Type 0} (disk : Ghosts D) where
   -- the keeper and its files represent this log
   abbrev pub LogStands : Log D → Logs → Type 0
   LogStands log logs =
-      Stands log.keeper (file log.a) (file log.b) (leaves log.a) (leaves log.b)
-      (record { journal = Writing logs; left = 0 })
+      DisksStand disk log.keeper log.a log.b (record { journal = Writing logs; left = 0 })
 
   -- The files hold what they held at first, followed by the first of these records, except those
   -- left out for a switch at one of these ticks. Then come the switch in work and the queued
@@ -171,9 +169,10 @@ module _ {D : Type 0} (file : D → List ℕ) (leaves : D → List ℕ → Type 
     pub none_lost : down ≡ false → lost ≡ []
     pub acknowledged : HasAcked acked logs ⊎ IsCovered covers acked
 
-  pub record IsLogging (honest : Bool) (w : Logging D) : Type 0 where
+  pub record IsLogging (w : Logging D) : Type 0 where
     pub started : w.log.keeper.starting ≡ false
-    pub fits : IsTrue honest → FitsFiles w.log.keeper (file w.log.a) (file w.log.b)
+    pub fits : IsTrue disk.honest
+        → FitsFiles w.log.keeper (disk.content w.log.a) (disk.content w.log.b)
     pub follows : QueueFollows w.log.keeper w.ring.items
     pub end : w.down ≡ false → end_of w.log.keeper w.ring.items ≡ items_end w.from.items
     pub ring : w.ring.capacity ≡ QUEUE_RECORDS
@@ -183,9 +182,9 @@ module _ {D : Type 0} (file : D → List ℕ) (leaves : D → List ℕ → Type 
     pub most : (items_end w.from.items).base + (items_end w.from.items).count ≤ TICK_MAX
     pub posted : w.down ≡ false → w.answers.posted ≡ w.answers.answered
     pub durable : w.answers.posted ≤ w.acked
-    pub reports : ReportsDown w.down w.reported_down.ticks
-    pub writes : IsTrue honest → (logs : Logs) → LogStands w.opening logs
-        → Writes w.log w.ring.items w.covers.ticks w.acked w.down (content_in logs)
+    pub reports : ReportsDown w.down w.reported_down.numbers
+    pub writes : IsTrue disk.honest → (logs : Logs) → LogStands w.opening logs
+        → Writes w.log w.ring.items w.covers.numbers w.acked w.down (content_in logs)
         (records_of w.from.items)
 
 -- The log writer while it posts answers: the log as it began, the popped items, the word that it
@@ -200,11 +199,10 @@ pub record Holding (D : Type 0) : Type 0 where
 -- The ticks up to this number are durable, if keeper and files represented a log when the log
 -- writer began. Whatever a crash leaves, the files have the popped records up to this tick, or an
 -- image that was loaded as open has them.
-abbrev pub IsDurable : {D : Type 0} → (file : D → List ℕ) → (leaves : D → List ℕ → Type 0)
-    → Holding D → (number : ℕ) → Type 0
-IsDurable file leaves held number =
-    (first : Logs) → LogStands file leaves held.opening first
-    → Writes file leaves held.log held.ring.items held.covers.ticks number false (content_in first)
+abbrev pub IsDurable : {D : Type 0} → Ghosts D → Holding D → (number : ℕ) → Type 0
+IsDurable disk held number =
+    (first : Logs) → LogStands disk held.opening first
+    → Writes disk held.log held.ring.items held.covers.numbers number false (content_in first)
     (records_of held.from.items)
 
 -- these items were popped, their records are queued, and their answers wait
@@ -277,7 +275,7 @@ Settles old new = ((old.answers.waiting ≡ []) × (new ≡ old))
     ⊎ ((new.answers.posted < new.answers.answered)
     × (new ≡ record old {
       down = true;
-      reported_down = with_reported old.reported_down 1;
+      reported_down = with_number old.reported_down 1;
       answers = refused old.answers;
     }))
 

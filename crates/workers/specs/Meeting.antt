@@ -22,5 +22,5 @@ pub record HaveMet {D : Type 0} (m : Playing) (c : Imaging D) (w : Logging D) : 
   pub waiting : List Item
   pub order : w.from.items ++ waiting ≡ m.to.items
   pub numbered : AreNumbered m.to.items
-  pub reported : AreStored c.covers.ticks w.covers.ticks
-  pub heard : AreStored w.reported_down.ticks m.heard.ticks
+  pub reported : AreStored c.covers.numbers w.covers.numbers
+  pub heard : AreStored w.reported_down.numbers m.heard.numbers

@@ -6,18 +6,19 @@ use Rattle.world_actions.specs.declared.refusal.Refusal.{Refusal}
 use Rattle.world_actions.specs.declared.refusal.Refusal.TheVariants.{LogDown, Busy}
 use Rattle.world_ticks.specs.declared.tick.TheConstants.{TICK_MAX}
 use Rattle.shared_capture.specs.declared.view.Round.{Round}
-use Rattle.shared_capture.specs.SignalWord.{SignalState}
+use Rattle.shared_capture.specs.SignalWord.{SignalState, with_number}
 use Rattle.shared_capture.specs.States.{FrontState, HasFlags, KeepsUntouched, SameWords}
 use Rattle.shared_capture.specs.States.{marked_rounds, IsRefused}
 use Rattle.workers.specs.declared.item.Ended.{Ended}
 use Rattle.workers.specs.declared.item.Item.{Item}
-use Rattle.workers.specs.declared.item.Item.TheVariants.{Tick, Switch, Stop}
+use Rattle.workers.specs.declared.item.Item.TheVariants as items
+use Rattle.workers.specs.declared.item.Owed.{Owed}
+use Rattle.workers.specs.declared.item.Owed.TheVariants.{Tick, Switch}
 use Rattle.workers.specs.Items.{Goes, end_after, items_end}
 use Rattle.workers.specs.Posts.{AskedBatch}
 use Rattle.workers.specs.AskOrder.{asks_of, IsBefore, PlaysInTurn}
 use Rattle.workers.specs.AskChannel.{Taking, with_ask}
 use Rattle.workers.specs.Channel.{Pushing, with_item, with_refusal}
-use Rattle.workers.specs.Covering.{loaded}
 use Rattle.workers.specs.Worlds.{Leads, begun, AreUnchanged, History, Counts, RanBatch}
 use Rattle.workers.specs.Worlds.{IsRefusedTick, world_of}
 
@@ -35,7 +36,11 @@ pub record Playing : Type 0 where
   pub since : ℕ
   pub every : ℕ
   pub stopped : Bool
-  pub owed : Option Item
+  pub owed : Option Owed
+
+abbrev pub item_of : Owed → Item
+item_of (Tick ended) = items.Tick ended
+item_of (Switch number) = items.Switch number
 
 -- It owes this item, which may be pushed next and states what the front did since the last push.
 -- Until then it has stopped.
@@ -60,7 +65,7 @@ pub record IsMutator (m : Playing) : Type 0 where
   pub most : m.ended ≤ TICK_MAX
   pub flags : HasFlags m.front
   pub unchanged : AreUnchanged m.opening (marked_rounds m.front 0)
-  pub owes : IfSome m.owed (Owes m)
+  pub owes : IfSome m.owed (λ owed. Owes m (item_of owed))
 
 -- ---- a round
 
@@ -84,18 +89,6 @@ FindsRound old new =
     (new ≡ record old { front = new.front }) × SameWords old.front new.front
     × IsRefused old.front Busy new.front
 
--- a round was opened, and its switch pushed directly after
-abbrev pub Marks : Playing → Playing → Type 0
-Marks old new =
-    (new ≡ record old { front = new.front; to = new.to; since = 0 }) × OpensRound old new.front
-    × (new.to ≡ with_item old.to (Switch old.ended))
-
--- a round was opened, and the push of its switch was refused
-abbrev pub LosesSwitch : Playing → Playing → Type 0
-LosesSwitch old new =
-    (new ≡ record old { front = new.front; to = with_refusal old.to; stopped = true })
-    × OpensRound old new.front
-
 -- no round was due, or one was open
 abbrev pub OpensNone : Playing → Playing → Type 0
 OpensNone old new = ((new ≡ old) × ((old.stopped ≡ true) ⊎ IsEarly old)) ⊎ FindsRound old new
@@ -106,12 +99,6 @@ OwesSwitch old new =
     (old.stopped ≡ false) × (old.owed ≡ None)
     × (new ≡ record old { front = new.front; stopped = true; owed = Some (Switch old.ended) })
     × OpensRound old new.front
-
--- if a round is due and none is open, it is opened
-abbrev pub MarksIfDue : Playing → Playing → Type 0
-MarksIfDue old new =
-    ((new ≡ old) × ((old.stopped ≡ true) ⊎ IsEarly old))
-    ⊎ (FindsRound old new ⊎ (Marks old new ⊎ LosesSwitch old new))
 
 -- ---- a batch
 
@@ -134,35 +121,13 @@ pub record Runs (old : Playing) (asked : AskedBatch) (ended : Ended)
   pub ran : RanBatch asked.requests (world_of old.front) ended (world_of front)
   pub untouched : KeepsUntouched old.front front
 
--- the log wasn't reported to be down, and the tick was pushed
-abbrev pub PushesTick : Playing → AskedBatch → Playing → Type 0
-PushesTick old asked new =
-    (new ≡ record old {
-      front = new.front;
-      to = new.to;
-      heard = loaded old.heard 0;
-      ended = old.ended + 1;
-      since = old.since + 1;
-    })
-    × ((ended : Ended) × Runs old asked ended new.front × (new.to ≡ with_item old.to (Tick ended)))
-
--- the push of the tick was refused
-abbrev pub LosesTick : Playing → AskedBatch → Playing → Type 0
-LosesTick old asked new =
-    (new ≡ record old {
-      front = new.front;
-      to = with_refusal old.to;
-      heard = loaded old.heard 0;
-      stopped = true;
-    }) × ((ended : Ended) × Runs old asked ended new.front)
-
 -- the log wasn't reported to be down, the batch was run, and its tick is owed
 abbrev pub OwesTick : Playing → AskedBatch → Playing → Type 0
 OwesTick old asked new = (old.owed ≡ None)
     × ((ended : Ended) × Runs old asked ended new.front
     × (new ≡ record old {
       front = new.front;
-      heard = loaded old.heard 0;
+      heard = with_number old.heard 0;
       stopped = true;
       owed = Some (Tick ended);
     }))
@@ -171,26 +136,19 @@ OwesTick old asked new = (old.owed ≡ None)
 abbrev pub HearsDown : Playing → Refusal → Playing → Type 0
 HearsDown old reason new =
     (flag : ℕ) × (1 ≤ flag)
-    × (new ≡ record old { heard = loaded old.heard flag }) × (reason ≡ LogDown)
+    × (new ≡ record old { heard = with_number old.heard flag }) × (reason ≡ LogDown)
 
 -- Nothing was run. Either no tick may end or memory was refused, or the log was reported to be
 -- down. Or the mutator has stopped, or stops here because its gate never lets another batch run.
 abbrev pub RefusesBatch : (stuck : Type 0) → Playing → Refusal → Playing → Type 0
 RefusesBatch stuck old reason new =
-    ((new ≡ record old { heard = loaded old.heard 0 })
+    ((new ≡ record old { heard = with_number old.heard 0 })
     × IsRefusedTick false old.ended old.since reason)
     ⊎ (HearsDown old reason new
     ⊎ ((new ≡ record old { stopped = true }) × (reason ≡ LogDown) × ((old.stopped ≡ true) ⊎ stuck)))
 
--- a batch is run, if the mutator hasn't stopped and the gate lets it, or it is refused
-abbrev pub AnswersBatch : (go stuck : Type 0) → Playing → AskedBatch
-    → Result (Unit {0}) Refusal → Playing → Type 0
-AnswersBatch go stuck old asked given new =
-    MatchResult given (λ _. go × (old.stopped ≡ false)
-    × (PushesTick old asked new ⊎ LosesTick old asked new))
-    (λ reason. RefusesBatch stuck old reason new)
-
--- the same, except that the tick is owed
+-- a batch is run and its tick owed, if the mutator hasn't stopped and the gate lets it, or it is
+-- refused
 abbrev pub RunsBatch : (go stuck : Type 0) → Playing → AskedBatch
     → Result (Unit {0}) Refusal → Playing → Type 0
 RunsBatch go stuck old asked given new =
@@ -206,39 +164,47 @@ pub record Plays (go stuck : Type 0) (old : Playing) (asked : AskedBatch)
 
 -- ---- the owed item
 
--- this item was pushed and counts, or its push was refused; it is owed no more
-abbrev pub PaysItem : Playing → Item → Playing → Type 0
-PaysItem old (Tick ended) new =
-    (new ≡ record old {
-      to = with_item old.to (Tick ended);
-      ended = old.ended + 1;
-      since = old.since + 1;
-      stopped = false;
-      owed = None;
-    })
-    ⊎ (new ≡ record old { to = with_refusal old.to; owed = None })
-PaysItem old (Switch number) new =
-    (new
-    ≡ record old { to = with_item old.to (Switch number); since = 0; stopped = false; owed = None })
-    ⊎ (new ≡ record old { to = with_refusal old.to; owed = None })
-PaysItem old item new = new ≡ record old { owed = None }
+-- the owed item was pushed, and counts
+abbrev pub paid : Playing → Owed → Playing
+paid old (Tick ended) = record old {
+  to = with_item old.to (items.Tick ended);
+  ended = old.ended + 1;
+  since = old.since + 1;
+  stopped = false;
+  owed = None;
+}
+paid old (Switch number) = record old {
+  to = with_item old.to (items.Switch number);
+  since = 0;
+  stopped = false;
+  owed = None;
+}
 
--- the owed item is pushed, or its push is refused
+-- the owed item is pushed, or its push is refused; it is owed no more
 abbrev pub Pays : Playing → Playing → Type 0
-Pays old new = MatchOption old.owed (new ≡ old) (λ item. PaysItem old item new)
+Pays old new = MatchOption old.owed (new ≡ old)
+    (λ owed. (new ≡ paid old owed) ⊎ (new ≡ record old { to = with_refusal old.to; owed = None }))
 
 -- ---- a turn
 
--- the next batch was taken, and it was run or refused, with a mark before it and after
--- it if one is due
+-- a round was opened if one was due and none open, and its switch pushed directly after, or its
+-- push was refused
+abbrev pub MarksIfDue : Playing → Playing → Type 0
+MarksIfDue old new =
+    OpensNone old new ⊎ ((opened : Playing) × OwesSwitch old opened × Pays opened new)
+
+-- The next batch was taken, with a mark before it and after it if one is due. It was run, and its
+-- tick pushed, or its push was refused. Or the batch was refused.
 pub record Turns (go stuck : Type 0) (old : Playing) (asked : AskedBatch)
     (given : Result (Unit {0}) Refusal) (new : Playing) : Type 0 where
   pub taken : Playing
   pub before : Playing
+  pub ran : Playing
   pub after : Playing
   pub takes : TakesAsk old asked taken
   pub marks_before : MarksIfDue taken before
-  pub batch : AnswersBatch go stuck before asked given after
+  pub runs : RunsBatch go stuck before asked given ran
+  pub pays : MatchResult given (λ _. Pays ran after) (λ _. after ≡ ran)
   pub marks_after : MarksIfDue after new
 
 -- ---- the end
@@ -246,5 +212,5 @@ pub record Turns (go stuck : Type 0) (old : Playing) (asked : AskedBatch)
 -- the last item was pushed, or its push was refused
 abbrev pub StopsPlay : Playing → Playing → Type 0
 StopsPlay old new =
-    (new ≡ record old { to = with_item old.to Stop })
+    (new ≡ record old { to = with_item old.to items.Stop })
     ⊎ (new ≡ record old { to = with_refusal old.to; stopped = true })

@@ -15,15 +15,11 @@ IsNoneDue newest tick = (TICK_MAX < tick) ⊎ (tick ≤ newest_tick newest)
 -- the tick may be published: it is that of a round, and newer than those before it
 pub record IsNext (covers : SignalState) (tick : ℕ) : Type 0 where
   pub some : 1 ≤ tick
-  pub newer : (i earlier : ℕ) → slice_get covers.ticks i ≡ Some earlier → earlier < tick
-
--- the tick was published
-abbrev pub reported : SignalState → ℕ → SignalState
-reported covers tick = record covers { ticks = covers.ticks ++ tick ∷ [] }
+  pub newer : (i earlier : ℕ) → slice_get covers.numbers i ≡ Some earlier → earlier < tick
 
 -- the ticks of the rounds that are done were published, each once and in order, and no other; none
 -- is newer than the newest image
 pub record ArePublished (newest : Option (Slot × ℕ)) (done : List Snapshot)
     (covers : SignalState) : Type 0 where
-  pub are : covers.ticks ≡ map (λ (s : Snapshot). s.tick) done
-  pub older : All (λ (tick : ℕ). tick ≤ newest_tick newest) covers.ticks
+  pub are : covers.numbers ≡ map (λ (s : Snapshot). s.tick) done
+  pub older : All (λ (tick : ℕ). tick ≤ newest_tick newest) covers.numbers

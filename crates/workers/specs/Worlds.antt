@@ -86,7 +86,7 @@ pub record History (opening : List ℕ) (items : List Item) (stopped : Bool)
   pub rounds : front.rounds ≡ reported.rounds
   pub all_reported : stopped ≡ false → (late ≡ []) × (reported ≡ world_of front)
 
--- so many ticks ended, and so many of them since the last switch or start
+-- how many ticks ended, and how many of them since the last switch or start
 pub record Counts (end : QueueEnd) (ended since : ℕ) : Type 0 where
   pub count : end.count ≡ since
   pub all : end.base + since ≡ ended

@@ -53,7 +53,7 @@ impl Model for AskChannel {
 pub struct AskReceiver {
     end: AskReceiveEnd,
     pass: Pass<Ask, AskView>,
-    /// How often it looks for an ask before it sleeps.
+    /// How often it spins for an ask before it sleeps.
     spins: WorkerSpins,
 }
 
@@ -113,7 +113,7 @@ impl AskChannel {
 }
 
 impl AskReceiver {
-    /// Uses these looks for asks from now on.
+    /// Spins for asks like this from now on.
     pub fn spin_by(&mut self, spins: Spins)
         ensures { self.new ≡ self.old }
     {

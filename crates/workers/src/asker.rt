@@ -81,8 +81,8 @@ impl Asker {
         }
     }
 
-    /// Waits for the reply to the last ask, which was for this batch. It looks for the reply so
-    /// often before it sleeps. A reply to another ask counts as none.
+    /// Waits for the reply to the last ask, which was for this batch. It spins for the reply
+    /// `spins` times before it sleeps. A reply to another ask counts as none.
     pub fn wait<R: Wait>(
         &mut self,
         rt: &R,

@@ -1,4 +1,7 @@
 //! The worker that writes the images.
+mod publisher;
+mod round;
+
 ghost use Rattle.std.specs.Prelude.{◌≡◌, ◌≢◌, ◌⊎◌, ◌↔◌, ◌<◌, ◌≤◌, true, false, [], IsTrue};
 ghost use Rattle.std.specs.Prelude.{MatchOption};
 ghost use Rattle.world_ticks.specs.declared.tick.TheConstants.{TICK_MAX};
@@ -19,16 +22,12 @@ use crate::gate::{Gate, Place, passes};
 use crossbeam_channel::Receiver;
 use disk_model::Disk;
 use image_files::{ImageKeeper, images_stay};
+pub use round::ImageWriter;
 use shared_capture::{Back, Method, SignalOut};
 use std::marker::Model;
 use std::snapshot::Snapshot;
 use std::sync::Wait;
 use world_ticks::TICK_MAX;
-
-mod publisher;
-mod round;
-
-pub use round::ImageWriter;
 
 /// Writes the image of each round that the front opens, while play continues.
 #[derive(Drop)]
@@ -56,7 +55,7 @@ impl<M: Method, D: Disk + Drop, G: Gate + Drop> Model for Checkpointer<M, D, G> 
       over = c.over;
     } };
 
-    ghost invariant = { λ c. IsCheckpointer D.honest D.content D.may_leave
+    ghost invariant = { λ c. IsCheckpointer D.Disk
         (record {
           back = c.back;
           covers = c.covers;
@@ -78,8 +77,8 @@ impl<M: Method, D: Disk + Drop, G: Gate + Drop> Checkpointer<M, D, G> {
         requires cells { images.keeper.cells ≡ back.cells }
         requires rest { IsAtRest images.keeper back }
         requires done { back.done ≡ [] }
-        requires none { covers.ticks ≡ [] }
-        requires fits { IsTrue D.honest → WriterFits D.content images }
+        requires none { covers.numbers ≡ [] }
+        requires fits { IsTrue D.honest → WriterFits D.Disk images }
         ensures { result ≡ record {
           back = back;
           covers = covers;

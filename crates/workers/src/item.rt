@@ -21,6 +21,13 @@ pub enum Item {
     Stop,
 }
 
+/// The item that a mutator pushes next, for what its front did last.
+#[derive(Drop)]
+pub enum Owed {
+    Tick(Ended),
+    Switch(u64),
+}
+
 /// The knowledge of an end of the channel. No value of this type is made, and a clause reads an
 /// array as a list of any length.
 pub enum View {

@@ -58,7 +58,7 @@ impl Model for ItemSender {
 pub struct ItemReceiver {
     end: ReceiveEnd,
     pass: Pass<Item, View>,
-    /// How often it looks for an item before it sleeps.
+    /// How often it spins for an item before it sleeps.
     spins: WorkerSpins,
 }
 
@@ -133,7 +133,7 @@ impl ItemSender {
 }
 
 impl ItemReceiver {
-    /// Uses these looks for items from now on.
+    /// Spins for items like this from now on.
     pub(crate) fn spin_by(&mut self, spins: Spins)
         ensures { self.new ≡ self.old }
     {

@@ -13,12 +13,12 @@ ghost use Rattle.action_log.specs.Cover.{uncovered, cover_answer};
 ghost use Rattle.action_log.specs.Files.{FitsFiles};
 ghost use Rattle.action_log.specs.Progress.{work_of};
 ghost use Rattle.restart.specs.declared.start.TheConstants.{QUEUE_RECORDS};
+ghost use Rattle.shared_capture.specs.SignalWord.{with_number};
 ghost use Rattle.workers.specs.declared.gate.Place.TheVariants.{Device};
 ghost use Rattle.workers.specs.declared.item.Item.{Item as Popped};
 ghost use Rattle.workers.specs.declared.item.Item.TheVariants.{Start};
-ghost use Rattle.workers.specs.Covering.{loaded, LoadsOn};
+ghost use Rattle.workers.specs.Covering.{LoadsOn};
 ghost use Rattle.workers.specs.Gates.{MayGo, MayStick};
-ghost use Rattle.workers.specs.Publishing.{reported as with_reported};
 ghost use Rattle.workers.specs.Logging.{is_stop, has_stop, is_over, writer_at, Took, Loses, Pops};
 ghost use Rattle.workers.specs.Logging.{refused, Settles, receipt_of, Acknowledges, IsReady};
 ghost use Rattle.workers.specs.Logging.{IsAtRest, LogReportsFaults, FallsBy, IsPosted, IsLogging};
@@ -70,7 +70,6 @@ pub struct LogWriter<D: Disk + Drop, G: Gate + Drop> {
 
 impl<D: Disk + Drop, G: Gate + Drop> Model for LogWriter<D, G> {
     ghost use Rattle.workers.specs.Gates.{MayGo, MayStick};
-    ghost use Rattle.workers.specs.Publishing.{reported};
     ghost use Rattle.workers.specs.Logging.{Logging, IsLogging};
 
     ghost Value = { Logging D };
@@ -79,7 +78,7 @@ impl<D: Disk + Drop, G: Gate + Drop> Model for LogWriter<D, G> {
 
     ghost view = { logging_of };
 
-    ghost invariant = { λ w. IsLogging D.content D.may_leave D.honest (logging_of w) };
+    ghost invariant = { λ w. IsLogging D.Disk (logging_of w) };
 }
 
 impl<D: Disk + Drop, G: Gate + Drop> LogWriter<D, G> {
@@ -95,7 +94,7 @@ impl<D: Disk + Drop, G: Gate + Drop> LogWriter<D, G> {
         tick: u64,
     ) -> Result<Self, AllocError>
         requires opened { from.items ≡ Start tick ∷ [] }
-        requires unreported { reported_down.ticks ≡ [] }
+        requires unreported { reported_down.numbers ≡ [] }
         requires most { tick ≤ TICK_MAX }
         requires ready { IsReady log.keeper tick }
         requires fits { IsTrue D.honest → FitsFiles log.keeper (D.content log.a) (D.content log.b) }
@@ -120,7 +119,7 @@ impl<D: Disk + Drop, G: Gate + Drop> LogWriter<D, G> {
         })
     }
 
-    /// Uses these looks for items before it sleeps, from now on.
+    /// Spins for items like this from now on.
     pub fn spin_by(&mut self, spins: Spins)
         ensures { self.new ≡ self.old }
     {
@@ -160,7 +159,7 @@ impl<D: Disk + Drop, G: Gate + Drop> LogWriter<D, G> {
         requires up { self.old.down ≡ false }
         ensures { self.new ≡ record self.old {
           down = true;
-          reported_down = with_reported self.old.reported_down 1;
+          reported_down = with_number self.old.reported_down 1;
           answers = refused self.old.answers;
         } }
     {
@@ -244,13 +243,13 @@ impl<D: Disk + Drop, G: Gate + Drop> LogWriter<D, G> {
         ensures loads { LoadsOn self.old.covers self.new.covers }
         ensures word { self.new.reported_down.pair ≡ self.old.reported_down.pair }
         ensures covers { self.new.down ≡ false
-            → (tick : ℕ) × (self.new.covers ≡ loaded self.old.covers tick)
+            → (tick : ℕ) × (self.new.covers ≡ with_number self.old.covers tick)
             × (cover_answer self.old.log.keeper tick self.old.ring.items ≢ Idle
             → (self.new.log ≡ self.old.log)
             × (self.new.ring.items ≡ uncovered self.old.log.keeper tick self.old.ring.items)) }
         ensures acked { self.old.acked ≤ self.new.acked }
         ensures posts { self.new.down ≡ false
-            → (tick : ℕ) × (self.new.covers ≡ loaded self.old.covers tick)
+            → (tick : ℕ) × (self.new.covers ≡ with_number self.old.covers tick)
             × Acknowledges
             (receipt_of self.old.log.keeper tick self.old.ring.items self.new.log.keeper) self.old
             self.new }

@@ -35,8 +35,8 @@ pub fn meet_workers<M: Method, D: Disk + Drop, A: Gate + Drop, B: Gate + Drop, C
     ensures back { MetBack checkpointer.old.back checkpointer.new.back }
     ensures log_writer { log_writer.new ≡ log_writer.old }
     ensures is_mutator { IsMutator mutator.new }
-    ensures is_checkpointer { IsCheckpointer D.honest D.content D.may_leave checkpointer.new }
-    ensures is_log_writer { IsLogging D.content D.may_leave D.honest log_writer.new }
+    ensures is_checkpointer { IsCheckpointer D.Disk checkpointer.new }
+    ensures is_log_writer { IsLogging D.Disk log_writer.new }
 {
     meet(&mut mutator.front, &mut checkpointer.back);
     compare(&mut mutator.to, &mut log_writer.from);

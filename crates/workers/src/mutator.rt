@@ -4,18 +4,18 @@ ghost use Rattle.std.specs.Prelude.{MatchOption};
 ghost use Rattle.world_actions.specs.declared.refusal.Refusal.{Refusal};
 ghost use Rattle.world_ticks.specs.declared.tick.TheConstants.{TICK_MAX};
 ghost use Rattle.shared_capture.specs.States.{HasFlags};
+ghost use Rattle.shared_capture.specs.SignalWord.{with_number};
 ghost use Rattle.workers.specs.declared.gate.Place.TheVariants.{Tick};
 ghost use Rattle.workers.specs.declared.item.Item.TheVariants.{Start};
-ghost use Rattle.workers.specs.Covering.{loaded};
 ghost use Rattle.workers.specs.Gates.{MayGo, MayStick};
 ghost use Rattle.workers.specs.Posts.{AskedBatch};
 ghost use Rattle.workers.specs.Mutating.{IsLastRound, OpensNone, OwesSwitch, MarksIfDue, IsTaken};
-ghost use Rattle.workers.specs.Mutating.{RunsBatch, AnswersBatch, Plays, Pays, Turns, StopsPlay};
+ghost use Rattle.workers.specs.Mutating.{RunsBatch, Plays, Pays, Turns, StopsPlay};
 
 use crate::ask_channel::AskReceiver;
 use crate::batch_run::play;
 use crate::gate::{Gate, Place, passes};
-use crate::item::{Ended, Item};
+use crate::item::{Ended, Item, Owed};
 use crate::item_channel::ItemSender;
 use crate::post::{Ask, Refused};
 use crossbeam_channel::Sender;
@@ -50,7 +50,7 @@ pub struct Mutator<M: Method, G: Gate + Drop> {
     /// holds every batch.
     stopped: bool,
     /// The item of the front's last act, if it isn't pushed yet.
-    owed: Option<Item>,
+    owed: Option<Owed>,
 }
 
 impl<M: Method, G: Gate + Drop> Model for Mutator<M, G> {
@@ -140,33 +140,27 @@ impl<M: Method, G: Gate + Drop> Mutator<M, G> {
     {
         let ask = self.asks.next(rt)?;
         self.mark_if_due(rt);
-        let played = self.play_batch(rt, ask);
+        let ran = self.owe_tick(rt, ask);
+        if ran.is_ok() {
+            self.pay(rt);
+        }
         self.mark_if_due(rt);
-        Some(played)
+        Some(ran)
     }
 
     /// Runs the next batch, if there is one, and owes its tick with the answer, or answers
     /// with the refusal.
-    pub fn run_next<R: Wait>(&mut self, rt: &R) -> Option<Result<(), Refused>>
+    pub fn owe_next_tick<R: Wait>(&mut self, rt: &R) -> Option<Result<(), Refused>>
         ensures { MatchOption result (self.new ≡ self.old) (λ given. (asked : AskedBatch)
             × Plays (MayGo G.answers Tick) (MayStick G.answers Tick)
             self.old asked given self.new) }
     {
         let ask = self.asks.try_next(rt)?;
-        Some(self.run_batch(rt, ask))
-    }
-
-    /// Opens a round if one is due, and pushes its switch directly after.
-    pub fn mark_if_due<R: Wait>(&mut self, rt: &R)
-        ensures { MarksIfDue self.old self.new }
-    {
-        if self.open_if_due() {
-            self.pay(rt);
-        }
+        Some(self.owe_tick(rt, ask))
     }
 
     /// Opens a round if one is due, and owes its switch. Returns true if it did.
-    pub fn open_if_due(&mut self) -> bool
+    pub fn owe_due_switch(&mut self) -> bool
         ensures opened { result ≡ true → OwesSwitch self.old self.new }
         ensures none { result ≡ false → OpensNone self.old self.new }
     {
@@ -177,29 +171,22 @@ impl<M: Method, G: Gate + Drop> Mutator<M, G> {
             return false;
         }
         self.stopped = true;
-        self.owed = Some(Item::Switch(self.ended));
+        self.owed = Some(Owed::Switch(self.ended));
         true
     }
 
-    // Runs the batch that was taken last, and pushes its tick with the answer, or answers
-    // with the refusal.
-    fn play_batch<R: Wait>(&mut self, rt: &R, ask: Ask) -> Result<(), Refused>
-        requires { IsTaken self.old ask }
-        ensures { AnswersBatch (MayGo G.answers Tick) (MayStick G.answers Tick)
-            self.old ask result self.new }
+    // Opens a round if one is due, and pushes its switch directly after.
+    fn mark_if_due<R: Wait>(&mut self, rt: &R)
+        ensures { MarksIfDue self.old self.new }
     {
-        match self.run_batch(rt, ask) {
-            Ok(()) => {
-                self.pay(rt);
-                Ok(())
-            }
-            Err(reason) => Err(reason),
+        if self.owe_due_switch() {
+            self.pay(rt);
         }
     }
 
     // Runs the batch that was taken last, and owes its tick with the answer, or answers
     // with the refusal.
-    fn run_batch<R: Wait>(&mut self, rt: &R, ask: Ask) -> Result<(), Refused>
+    fn owe_tick<R: Wait>(&mut self, rt: &R, ask: Ask) -> Result<(), Refused>
         requires { IsTaken self.old ask }
         ensures { RunsBatch (MayGo G.answers Tick) (MayStick G.answers Tick)
             self.old ask result self.new }
@@ -232,7 +219,7 @@ impl<M: Method, G: Gate + Drop> Mutator<M, G> {
         let number = number + 1;
         let answer = ask.wait(number, text);
         self.stopped = true;
-        self.owed = Some(Item::Tick(Ended { tick, answer }));
+        self.owed = Some(Owed::Tick(Ended { tick, answer }));
         Ok(())
     }
 
@@ -241,25 +228,24 @@ impl<M: Method, G: Gate + Drop> Mutator<M, G> {
     pub fn pay<R: Wait>(&mut self, rt: &R)
         ensures { Pays self.old self.new }
     {
-        let Some(item) = self.owed.take() else {
+        let Some(owed) = self.owed.take() else {
             return;
         };
-        match item {
-            Item::Tick(ended) => {
+        match owed {
+            Owed::Tick(ended) => {
                 if self.to.push(rt, Item::Tick(ended)) {
                     self.ended += 1;
                     self.since += 1;
                     self.stopped = false;
                 }
             }
-            Item::Switch(number) => {
+            Owed::Switch(number) => {
                 if self.to.push(rt, Item::Switch(number)) {
                     self.since = 0;
                     self.stopped = false;
                     ring(rt, &self.bell, &self.front, number);
                 }
             }
-            Item::Start(_) | Item::Stop => {}
         }
     }
 
@@ -285,8 +271,9 @@ fn ring<R: Wait, M: Method>(rt: &R, bell: &Option<Sender<()>>, _front: &Front<M>
 
 // True if the log writer has reported that the log is down.
 fn hears_down(heard: &mut SignalIn) -> bool
-    ensures up { result ≡ false → heard.new ≡ loaded heard.old 0 }
-    ensures down { result ≡ true → (flag : ℕ) × (1 ≤ flag) × (heard.new ≡ loaded heard.old flag) }
+    ensures up { result ≡ false → heard.new ≡ with_number heard.old 0 }
+    ensures down { result ≡ true
+        → (flag : ℕ) × (1 ≤ flag) × (heard.new ≡ with_number heard.old flag) }
 {
     heard.latest() != 0
 }

@@ -11,6 +11,7 @@ use disk_model::Disk;
 use std::alloc::Global;
 use std::marker::Model;
 use std::mem;
+use std::snapshot::Snapshot;
 use std::sync::Wait;
 use world_actions::Refusal;
 
@@ -110,7 +111,6 @@ impl Ask {
         Ask { asked, buffer, to }
     }
 
-    /// The batch.
     pub fn batch(&self) -> &Batch
         ensures { result.now.list ≡ self.now.requests }
     {
@@ -129,16 +129,11 @@ impl Ask {
         requires answers { IsAnswer self text.items number }
         ensures { result ≡ record { number = number; asked = self; text = text.items } }
     {
-        let Ask {
-            asked,
-            buffer: _,
-            to,
-        } = self;
         Waiting {
             number,
-            asked,
+            asked: self.asked,
             text,
-            to,
+            to: self.to,
         }
     }
 
@@ -146,12 +141,7 @@ impl Ask {
     pub fn refuse<R: Wait>(self, rt: &R, reason: Refusal) -> Refused
         ensures { result ≡ reason }
     {
-        let Ask {
-            asked,
-            buffer: _,
-            to,
-        } = self;
-        to.send(rt, Reply::Fault(asked.fault(reason)));
+        self.to.send(rt, Reply::Fault(self.asked.fault(reason)));
         Refused(reason)
     }
 }
@@ -235,13 +225,7 @@ impl Post {
         ensures durable { self.tick ≤ self.receipt }
         ensures answers { IsAnswer self.asked self.text self.tick }
     {
-        let Post {
-            tick: _,
-            asked,
-            text,
-            receipt: _,
-        } = self;
-        (text, asked.batch)
+        (self.text, self.asked.batch)
     }
 }
 
@@ -273,7 +257,6 @@ impl Fault {
         self.session == session && self.ask == ask
     }
 
-    /// The reason.
     pub fn reason(&self) -> Refusal
         ensures { result ≡ self.now.reason }
     {
@@ -288,18 +271,21 @@ pub enum Reply {
     Fault(Fault),
 }
 
-/// The tick of the last post, or the one that the ticks began after: only a post raises it.
+/// The tick of the last post, or the one that the ticks began after: only a post raises it. Only
+/// clauses read it.
 #[derive(Drop)]
 pub(crate) struct LastPost {
-    tick: u64,
+    tick: Snapshot<u64>,
 }
 
 impl LastPost {
     /// No post since this tick.
     pub(crate) fn none_since(tick: u64) -> Self
-        ensures { result ≡ record { tick = tick } }
+        ensures { result.tick.value ≡ tick }
     {
-        LastPost { tick }
+        LastPost {
+            tick: Snapshot::of(&tick),
+        }
     }
 }
 
@@ -345,23 +331,18 @@ impl Waiting {
         last: &mut LastPost,
     )
         requires durable { self.number ≤ receipt }
-        requires held { IsTrue D.honest → IsDurable D.content D.may_leave _holding.now self.number }
-        ensures { last.new ≡ record { tick = self.number } }
+        requires held { IsTrue D.honest → IsDurable D.Disk _holding.now self.number }
+        ensures { last.new.tick.value ≡ self.number }
     {
-        last.tick = self.number;
+        last.tick = Snapshot::of(&self.number);
         let (post, to) = self.into_post(receipt);
         to.send(rt, Reply::Post(post));
     }
 
     /// Reports a fault to its session: the log is down.
     pub(crate) fn refuse<R: Wait>(self, rt: &R) {
-        let Waiting {
-            number: _,
-            asked,
-            text: _,
-            to,
-        } = self;
-        to.send(rt, Reply::Fault(asked.fault(Refusal::LogDown)));
+        self.to
+            .send(rt, Reply::Fault(self.asked.fault(Refusal::LogDown)));
     }
 
     // Turns it into its post, with the sender to its session.
@@ -374,18 +355,12 @@ impl Waiting {
           receipt = receipt;
         } }
     {
-        let Waiting {
-            number,
-            asked,
-            text,
-            to,
-        } = self;
         let post = Post {
-            tick: number,
-            asked,
-            text,
+            tick: self.number,
+            asked: self.asked,
+            text: self.text,
             receipt,
         };
-        (post, to)
+        (post, self.to)
     }
 }

@@ -17,9 +17,9 @@ const ASLEEP: u64 = 1;
 /// The sender is gone. Its reply is there, if it sent one.
 const SENT: u64 = 2;
 
-// One place for a reply, and its state: if a reply has come.
+// A reply, once it has come, and the state of its way.
 #[derive(Drop)]
-struct Place {
+struct Slot {
     state: AtomicU64,
     reply: Mutex<Option<Reply>>,
 }
@@ -27,18 +27,18 @@ struct Place {
 /// The session's end while no reply is on its way. It is empty.
 #[derive(Drop)]
 pub struct ReplySlot {
-    place: Arc<Place, Global>,
+    slot: Arc<Slot, Global>,
 }
 
 /// The session's end while its sender is out.
 #[derive(Drop)]
 pub struct AwaitedReply {
-    place: Arc<Place, Global>,
+    slot: Arc<Slot, Global>,
 }
 
 /// The end that goes with an ask. If it is dropped unused, the session finds that no reply comes.
 pub struct ReplySender {
-    place: Arc<Place, Global>,
+    slot: Arc<Slot, Global>,
 }
 
 // Clauses see nothing of an end. The type of a reply carries its promise.
@@ -63,45 +63,45 @@ impl Model for ReplySender {
 impl ReplySlot {
     /// An empty slot. Only this call takes memory.
     pub fn new(alloc: Global) -> Result<Self, AllocError> {
-        let place = Place {
+        let slot = Slot {
             state: AtomicU64::new(EMPTY),
             reply: Mutex::new(None),
         };
         Ok(ReplySlot {
-            place: Arc::new(alloc, place)?,
+            slot: Arc::new(alloc, slot)?,
         })
     }
 
     /// Hands out the sender of the next reply. The slot is given back once that reply was awaited,
     /// so there is one sender at a time.
     pub fn ask(self) -> Result<(AwaitedReply, ReplySender), AllocError> {
-        let ReplySlot { place } = self;
+        let ReplySlot { slot } = self;
         let sender = ReplySender {
-            place: Arc::try_clone(&place)?,
+            slot: Arc::try_clone(&slot)?,
         };
-        Ok((AwaitedReply { place }, sender))
+        Ok((AwaitedReply { slot }, sender))
     }
 }
 
 impl AwaitedReply {
     /// True if the sender is gone, so that there is no more to wait for.
     pub fn is_sent(&self) -> bool {
-        self.place.state.load(Ordering::SeqCst) == SENT
+        self.slot.state.load(Ordering::SeqCst) == SENT
     }
 
-    /// Looks for the reply up to `looks` times, and then sleeps until the sender is gone. Returns
+    /// Spins for the reply up to `spins` times, and then sleeps until the sender is gone. Returns
     /// `None` if the sender was dropped unused, and the slot, which is empty again.
     pub fn wait<R: Wait>(self, rt: &R, spins: u32) -> (Option<Reply>, ReplySlot) {
         if !self.sees_sent(spins) {
             self.sleep(rt);
         }
-        let AwaitedReply { place } = self;
-        let reply = place.reply.lock(rt).take();
-        place.state.store(EMPTY, Ordering::SeqCst);
-        (reply, ReplySlot { place })
+        let AwaitedReply { slot } = self;
+        let reply = slot.reply.lock(rt).take();
+        slot.state.store(EMPTY, Ordering::SeqCst);
+        (reply, ReplySlot { slot })
     }
 
-    // Checks up to `looks` times if the sender is gone.
+    // Checks up to `spins` times if the sender is gone.
     fn sees_sent(&self, spins: u32) -> bool {
         for _ in 0..spins {
             if self.is_sent() {
@@ -114,7 +114,7 @@ impl AwaitedReply {
 
     // Sleeps until the sender is gone.
     fn sleep<R: Wait>(&self, rt: &R) {
-        let state = &self.place.state;
+        let state = &self.slot.state;
         let _ = state.compare_exchange(EMPTY, ASLEEP, Ordering::SeqCst, Ordering::SeqCst);
         for _ in rt.forever() {
             if self.is_sent() {
@@ -129,15 +129,15 @@ impl AwaitedReply {
 impl ReplySender {
     /// Sends the reply, and wakes its session.
     pub fn send<R: Wait>(self, rt: &R, reply: Reply) {
-        *self.place.reply.lock(rt) = Some(reply);
+        *self.slot.reply.lock(rt) = Some(reply);
     }
 }
 
 impl Drop for ReplySender {
     fn drop(self) {
-        let ReplySender { place } = self;
-        if place.state.swap(SENT, Ordering::SeqCst) == ASLEEP {
-            place.state.wake_one();
+        let ReplySender { slot } = self;
+        if slot.state.swap(SENT, Ordering::SeqCst) == ASLEEP {
+            slot.state.wake_one();
         }
     }
 }

@@ -1,4 +1,4 @@
-//! How often a thread looks for what it waits for before it sleeps.
+//! How often a thread spins for what it waits for before it sleeps.
 ghost use Rattle.std.specs.Prelude.{◌≡◌};
 ghost use Rattle.workers.specs.Spins.{session_spins, worker_spins, misses_after};
 
@@ -7,24 +7,24 @@ use std::sync::Arc;
 use std::sync::atomic::{AtomicU64, Ordering};
 use std::thread::{self, Threads};
 
-/// How often a session looks for its post while a processor may be idle.
+/// How often a session spins for its post while a processor may be idle.
 const SESSION_SPINS: u32 = 100;
 
-/// How often a worker looks for work while many sessions wait, so that none of them has to wake it.
+/// How often a worker spins for work while many sessions wait, so that none of them has to wake it.
 const WORKER_SPINS: u32 = 200;
 
-/// How often a worker looks while few sessions wait: at most half as many as there are processors.
-/// These looks take some 0.3 ms, within which a client that was just answered mostly sends its next
+/// How often a worker spins while few sessions wait: at most half as many as there are processors.
+/// These spins take some 0.3 ms, within which a client that was just answered mostly sends its next
 /// batch.
 const LONG_SPINS: u32 = 1_000;
 
 /// The fewest processors with one for each thread on a batch's way: client, session and workers.
 const PROCESSORS_LEAST: u64 = 4;
 
-/// A worker stops looking after this number of waits in a row that ended in sleep.
+/// A worker stops spinning after this number of waits in a row that ended in sleep.
 const MISSES_MOST: u32 = 4;
 
-/// How many waits a worker that has stopped looking leaves out before it tries again.
+/// How many waits a worker that has stopped spinning leaves out before it tries again.
 const WAITS_BETWEEN: u32 = 16;
 
 /// How many sessions wait for their posts, and how many processors there are. Its clones
@@ -35,7 +35,7 @@ pub struct Spins {
     processors: u64,
 }
 
-/// How often one worker looks, which depends on how its last waits ended. If `looks` is `None`, it
+/// How often one worker spins, which depends on how its last waits ended. If `spins` is `None`, it
 /// waits as its channel does.
 #[derive(Drop)]
 pub(crate) struct WorkerSpins {
@@ -49,7 +49,7 @@ pub struct Counted<'a> {
 }
 
 impl Spins {
-    /// The looks on a machine with this number of processors. No session waits yet.
+    /// The spins on a machine with this number of processors. No session waits yet.
     pub fn new(alloc: Global, processors: u64) -> Result<Self, AllocError> {
         Ok(Spins {
             waiting: Arc::new(alloc, AtomicU64::new(0))?,
@@ -57,7 +57,7 @@ impl Spins {
         })
     }
 
-    /// The same, with the processors that this program may use: 1 if the system
+    /// The spins on a machine with the processors that this program may use: 1 if the system
     /// doesn't say how many.
     pub fn on_this_machine<R: Threads>(rt: &R, alloc: Global) -> Result<Self, AllocError> {
         let processors = match thread::available_parallelism(rt) {
@@ -75,7 +75,7 @@ impl Spins {
         }
     }
 
-    /// How often a session looks for its post before it sleeps.
+    /// How often a session spins for its post before it sleeps.
     pub fn of_session(&self) -> u32 {
         session_spins(self.waiting(), self.processors)
     }
@@ -87,7 +87,7 @@ impl Spins {
 }
 
 impl WorkerSpins {
-    /// A worker that never looks.
+    /// A worker that never spins.
     pub(crate) fn none() -> Self
         ensures { result.misses ≡ 0 }
     {
@@ -97,7 +97,7 @@ impl WorkerSpins {
         }
     }
 
-    /// The looks of a worker that hasn't waited yet.
+    /// A worker that hasn't waited yet.
     pub(crate) fn by(spins: Spins) -> Self
         ensures { result.misses ≡ 0 }
     {
@@ -107,7 +107,7 @@ impl WorkerSpins {
         }
     }
 
-    /// How often the worker looks for work before it sleeps. Other threads run between its looks.
+    /// How often the worker spins for work before it sleeps. Other threads run between its spins.
     /// It sleeps at once if this has become 0.
     pub(crate) fn count(&self) -> u32 {
         match &self.spins {
@@ -116,14 +116,14 @@ impl WorkerSpins {
         }
     }
 
-    /// A look found work.
+    /// A spin found work.
     pub(crate) fn found(&mut self)
         ensures { self.new ≡ record self.old { misses = 0 } }
     {
         self.misses = 0;
     }
 
-    /// No look found work, so the worker sleeps.
+    /// No spin found work, so the worker sleeps.
     pub(crate) fn missed(&mut self)
         ensures { self.new ≡ record self.old { misses = misses_after self.old.misses } }
     {
@@ -147,7 +147,7 @@ impl Drop for Counted<'_> {
     }
 }
 
-// How often a session looks while this number of sessions waits.
+// How often a session spins while this number of sessions waits.
 fn session_spins(waiting: u64, processors: u64) -> u32
     ensures { result ≡ session_spins waiting processors }
 {
@@ -158,7 +158,7 @@ fn session_spins(waiting: u64, processors: u64) -> u32
     }
 }
 
-// How often a worker looks while this number of sessions waits, after so many misses.
+// How often a worker spins while this number of sessions waits, after this number of misses.
 fn worker_spins(waiting: u64, processors: u64, misses: u32) -> u32
     ensures { result ≡ worker_spins waiting processors misses }
 {

@@ -3,6 +3,7 @@ use Rattle.std.specs.Prelude.{◌≡◌, ◌≤◌, ◌⊎◌, Bool, ℕ, List, 
 use Rattle.std.specs.Prelude.{Option, None, Some}
 use Rattle.world_actions.specs.declared.action.Action.{Action}
 use Rattle.world_actions.specs.declared.refusal.Refusal.TheVariants.{NoMemory, Device}
+use Rattle.disk_model.specs.declared.disk.Disk.{Ghosts}
 use Rattle.disk_model.specs.FourFiles.{EachFile, KeepsFile}
 use Rattle.disk_model.specs.declared.four_files.FourFiles.{FourFiles}
 use Rattle.recovery.specs.Events.{ticks_in}
@@ -75,14 +76,14 @@ pub record RecoversTo {D : Type 0} (file : D → List ℕ) (files : FourFiles D)
   pub tick_is : world.tick ≡ recovery.tick
   pub from_is : world.from ≡ recovery.from
 
-module _ {D : Type 0} (file : D → List ℕ) (leaves : D → List ℕ → Type 0) where
+module _ {D : Type 0} (disk : Ghosts D) where
   -- If the first files were those of a world, the others recover to exactly this tick of it,
   -- whatever a crash leaves of them. No acknowledged tick comes after it.
   abbrev pub KeepsWorld : FourFiles D → (tick : ℕ) → FourFiles D → Type 0
   KeepsWorld files tick left =
       (first : List ℕ) (ticks : List (List Action)) (acknowledged : ℕ)
-      → AreOfWorld file leaves files first ticks acknowledged
-      → (acknowledged ≤ tick) × AreSound file leaves left first (take tick ticks) tick
+      → AreOfWorld disk files first ticks acknowledged
+      → (acknowledged ≤ tick) × AreSound disk left first (take tick ticks) tick
 
   -- If the files were those of a world, these words, keepers and files hold it at rest after its
   -- recovered ticks. No acknowledged tick comes after these.
@@ -90,8 +91,8 @@ module _ {D : Type 0} (file : D → List ℕ) (leaves : D → List ℕ → Type 
       → ImageWriter D → Log D → Type 0
   StandsOpened files tick words writer log =
       (first : List ℕ) (ticks : List (List Action)) (acknowledged : ℕ)
-      → AreOfWorld file leaves files first ticks acknowledged
-      → WorldStands file leaves first (take tick ticks) words writer log
+      → AreOfWorld disk files first ticks acknowledged
+      → WorldStands disk first (take tick ticks) words writer log
       × (tick ≡ length (take tick ticks))
 
   -- If the files were those of a world, the workers leave theirs sound: for the recovered ones of
@@ -100,15 +101,15 @@ module _ {D : Type 0} (file : D → List ℕ) (leaves : D → List ℕ → Type 
   abbrev pub GoesOnSound : FourFiles D → (tick : ℕ) → Playing → Imaging D → Logging D → Type 0
   GoesOnSound files tick m c w =
       (first : List ℕ) (ticks : List (List Action)) (acknowledged : ℕ)
-      → AreOfWorld file leaves files first ticks acknowledged
+      → AreOfWorld disk files first ticks acknowledged
       → let all : List (List Action) = take tick ticks ++ ticks_in (records_of m.to.items) in
-      AreSound file leaves (files_of c.images w.log) first all
+      AreSound disk (files_of c.images w.log) first all
       (max acknowledged (acknowledged_by c w)) × (m.ended ≡ length all)
 
   -- The files of a world that isn't served. They were only read, or they still recover to the same
   -- world. Nothing is said of files that were handed to workers.
   abbrev pub LeavesWorld : FourFiles D → WorldFailure D → Type 0
-  LeavesWorld files (failure.NotRecovered left why) = EachFile files left (KeepsFile file leaves)
+  LeavesWorld files (failure.NotRecovered left why) = EachFile files left (KeepsFile disk)
   LeavesWorld files (failure.NotStarted world left refusal) = KeepsWorld files world.tick left
   LeavesWorld files (failure.NotOpened world left ending) = KeepsWorld files world.tick left
   LeavesWorld files (failure.NotRun world ending) = Unit {0}

@@ -9,13 +9,13 @@ use worker_threads::Acked;
 pub struct AckedOut {
     out: SignalOut,
     newest: u64,
-    ghost up_to: { (i earlier : ℕ) → slice_get out.ticks i ≡ Some earlier → earlier ≤ newest },
+    ghost up_to: { (i earlier : ℕ) → slice_get out.numbers i ≡ Some earlier → earlier ≤ newest },
 }
 
 impl AckedOut {
     /// Stores the ticks after the recovered one.
     pub fn new(out: SignalOut, recovered: u64) -> Self
-        requires { out.ticks ≡ [] }
+        requires { out.numbers ≡ [] }
         ensures { (result.out ≡ out) × (result.newest ≡ recovered) }
     {
         AckedOut {
@@ -28,7 +28,7 @@ impl AckedOut {
     pub fn raise(&mut self, acked: Acked)
         ensures pair { self.new.out.pair ≡ self.old.out.pair }
         ensures stored { self.old.newest < acked.tick
-            → (self.new.out.ticks ≡ self.old.out.ticks ++ acked.tick ∷ [])
+            → (self.new.out.numbers ≡ self.old.out.numbers ++ acked.tick ∷ [])
             × (self.new.newest ≡ acked.tick) }
         ensures kept { acked.tick ≤ self.old.newest → self.new ≡ self.old }
     {

@@ -57,7 +57,7 @@ impl GuardKeeper {
     fn due(&mut self, image: u64, seconds: u64) -> Option<Guard>
         ensures { (loaded : ℕ)
             × (self.new ≡ record self.old {
-              acked = record self.old.acked { ticks = self.old.acked.ticks ++ loaded ∷ [] };
+              acked = record self.old.acked { numbers = self.old.acked.numbers ++ loaded ∷ [] };
             })
             × (result ≡ next_guard self.old.failed self.old.written loaded image seconds) }
     {

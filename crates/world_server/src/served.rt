@@ -27,7 +27,7 @@ use std::sync::Wait;
 use std::thread::Threads;
 use std::time::Clock;
 use worker_steps::{Gates, Opened};
-use worker_threads::{Seats, Watch, start_world};
+use worker_threads::{Watch, start_world};
 use workers::{ImageWriter, Log, Open};
 use world_actions::Refusal;
 use world_folder::{
@@ -63,7 +63,7 @@ pub enum WorldFailure<D: Disk + Drop> {
 /// and played at most once.
 pub fn serve_world<
     R: Threads + Wait + Clock + Copy + Send + 'static,
-    M: Seats + Send + 'static,
+    M: Method + Send + 'static,
     D: Disk + Drop + Send + 'static,
     W: Watch<D> + Door + Clone + Drop + Send + 'static,
     F: Frontend<M, D, W>,
@@ -83,12 +83,12 @@ pub fn serve_world<
     ensures newest { checks.older ≡ OnLoss.Refuse → IfOk result (λ served.
         IfSome checks.guard (λ guard. guard.acked ≤ served.recovered.tick)) }
     ensures sound { IsTrue D.honest → IfOk result (λ served.
-        GoesOnSound D.content D.may_leave files served.recovered.tick served.stopped.workers.mutator
+        GoesOnSound D.Disk files served.recovered.tick served.stopped.workers.mutator
         served.stopped.workers.checkpointer served.stopped.workers.log_writer) }
     ensures in_turn { IfOk result (λ served.
         PlaysInTurn served.stopped.workers.mutator.asks.taken
         served.stopped.workers.mutator.to.items) }
-    ensures left { IsTrue D.honest → IfErr result (LeavesWorld D.content D.may_leave files) }
+    ensures left { IsTrue D.honest → IfErr result (LeavesWorld D.Disk files) }
     ensures reason { IfErr result (FailsFor D.content D.honest checks files) }
     ensures printed { IsTrue F.known → MatchResult result
         (λ served. F.printed front.new ≡ F.printed front.old ++ recovered_line served.recovered
@@ -109,14 +109,13 @@ pub fn serve_world<
 }
 
 // Recovers the world of the files, prints which one it is, and runs its start to the end.
-fn open_files<M: Seats, D: Disk + Drop, W, F: Frontend<M, D, W>>(
+fn open_files<M: Method, D: Disk + Drop, W, F: Frontend<M, D, W>>(
     alloc: Global,
     front: &mut F,
     files: FourFiles<D>,
     checks: Checks,
 ) -> Result<(WorldReport, Opened<M, D>), WorldFailure<D>>
-    ensures begins { IfOk result (λ made.
-        IsWhole D.honest D.content made.1.front made.1.back made.1.images made.1.log made.1.ended) }
+    ensures begins { IfOk result (λ made. IsWhole D.Disk made.1) }
     ensures tick { IfOk result (λ made. made.1.ended ≡ made.0.tick) }
     ensures recovered { IsTrue D.honest
         → IfOk result (λ made. RecoversTo D.content files made.1.front.live made.0) }
@@ -125,11 +124,11 @@ fn open_files<M: Seats, D: Disk + Drop, W, F: Frontend<M, D, W>>(
     ensures newest { checks.older ≡ OnLoss.Refuse → IfOk result (λ made.
         IfSome checks.guard (λ guard. guard.acked ≤ made.0.tick)) }
     ensures stands { IsTrue D.honest
-        → IfOk result (λ made. StandsOpened D.content D.may_leave files made.0.tick
+        → IfOk result (λ made. StandsOpened D.Disk files made.0.tick
         made.1.front.live made.1.images made.1.log) }
     ensures keeps { IsTrue D.honest → IfOk result (λ made.
-        KeepsWorld D.content D.may_leave files made.0.tick (files_of made.1.images made.1.log)) }
-    ensures left { IsTrue D.honest → IfErr result (LeavesWorld D.content D.may_leave files) }
+        KeepsWorld D.Disk files made.0.tick (files_of made.1.images made.1.log)) }
+    ensures left { IsTrue D.honest → IfErr result (LeavesWorld D.Disk files) }
     ensures reason { IfErr result (FailsFor D.content D.honest checks files) }
     ensures printed { IsTrue F.known → MatchResult result
         (λ made. F.printed front.new ≡ F.printed front.old ++ recovered_line made.0 ∷ [])
@@ -193,15 +192,13 @@ fn serve_opened<
     every: Every,
     admission: Admission,
 ) -> Result<Served<M, D>, WorldFailure<D>>
-    requires { IsWhole D.honest D.content opened.front opened.back opened.images
-        opened.log opened.ended }
+    requires { IsWhole D.Disk opened }
     ensures recovered { IfOk result (λ served. served.recovered ≡ recovered) }
     ensures opening { IfOk result (λ served.
         served.stopped.workers.mutator.opening ≡ opened.front.live) }
     ensures sound { IsTrue D.honest → IfOk result (λ served.
-        StaysSound D.content D.may_leave opened.front.live opened.images opened.log opened.ended
-        served.stopped.workers.mutator served.stopped.workers.checkpointer
-        served.stopped.workers.log_writer) }
+        StaysSound D.Disk opened served.stopped.workers.mutator
+        served.stopped.workers.checkpointer served.stopped.workers.log_writer) }
     ensures in_turn { IfOk result (λ served.
         PlaysInTurn served.stopped.workers.mutator.asks.taken
         served.stopped.workers.mutator.to.items) }

@@ -16,7 +16,6 @@ use std::alloc::Global;
 use std::net::{Net, TcpListener, TcpStream};
 use std::sync::Wait;
 use std::time::Clock;
-use worker_threads::Seats;
 use world_actions::Refusal;
 use world_folder::{
     Checks, Ending, Fault, NotRecovered, OnLoss, failure_of, open_existing, read_guard, stands_in,
@@ -57,7 +56,7 @@ fn serve_by<
         + Copy
         + Send
         + 'static,
-    M: Seats + Send + 'static,
+    M: Method + Send + 'static,
 >(rt: &R, service: &Service<'_>) -> Result<Ending, Ending>
     requires { service.now.method ≡ M.KIND }
     ensures ok { IfOk result EndsServing }

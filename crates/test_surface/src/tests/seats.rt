@@ -85,7 +85,7 @@ fn both_seats_are_parted(rt: HostRuntime) {
 // Publishes ticks of open images, and loads the newest.
 fn cover(out: &mut CoverOut, from: &mut CoverIn) -> (u64, u64)
     requires pair { out.old.pair ≡ from.old.pair }
-    requires fresh { out.old.ticks ≡ [] }
+    requires fresh { out.old.numbers ≡ [] }
 {
     let before: u64 = from.latest();
     out.publish(3);

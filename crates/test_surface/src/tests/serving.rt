@@ -1,18 +1,19 @@
 // `world_server`
 use client_service::{Admission, Door};
 use disk_model::{Disk, FourFiles};
+use shared_capture::Method;
 use std::alloc::Global;
 use std::sync::Wait;
 use std::thread::Threads;
 use std::time::Clock;
-use worker_threads::{Seats, Watch};
+use worker_threads::Watch;
 use world_folder::Checks;
 use world_server::{Every, Frontend, Served, WorldFailure, serve_tcp};
 
 // Serves the world of four files to the clients of a front.
 fn serve<
     R: Threads + Wait + Clock + Copy + Send + 'static,
-    M: Seats + Send + 'static,
+    M: Method + Send + 'static,
     D: Disk + Drop + Send + 'static,
     W: Watch<D> + Door + Clone + Drop + Send + 'static,
     F: Frontend<M, D, W>,

@@ -14,9 +14,7 @@ use std::process::Abort;
 use std::sync::Wait;
 use std::thread::Threads;
 use worker_steps::{Gates, Opened, Together};
-use worker_threads::{
-    Acked, Ends, Seats, TickWatch, Watch, Workers, ends_meet, start, start_world, stop,
-};
+use worker_threads::{Acked, Ends, TickWatch, Watch, Workers, ends_meet, start, start_world, stop};
 use workers::{
     AskChannel, AskReceiver, Asker, AwaitedReply, Checkpointer, Gate, ImageWriter, Log, LogWriter,
     Mutator, Open, Pass, Place, Post, Refused, Reply, ReplySlot, Spins, play,
@@ -51,25 +49,23 @@ fn empty_files(alloc: Global) -> Result<FourFiles<ModelFile>, Refusal> {
 }
 
 // Makes a new world of two cells, and opens it for its workers.
-fn make_world<M: Seats, D: Disk + Drop>(
+fn make_world<M: Method, D: Disk + Drop>(
     alloc: Global,
     files: FourFiles<D>,
 ) -> Result<Opened<M, D>, (FourFiles<D>, Refusal)>
-    ensures { IfOk result (λ opened. IsWhole D.honest D.content opened.front opened.back
-        opened.images opened.log opened.ended) }
+    ensures { IfOk result (λ opened. IsWhole D.Disk opened) }
 {
     let files = fresh_files(alloc, 2, files)?;
     let begun = recover_world::<PlainCopy, D>(alloc, files)?;
     start_world(alloc, begun)
 }
 
-fn open_world<M: Seats, D: Disk + Drop>(
+fn open_world<M: Method, D: Disk + Drop>(
     rt: &impl Abort,
     alloc: Global,
     files: FourFiles<D>,
 ) -> Opened<M, D>
-    ensures { IsWhole D.honest D.content result.front result.back result.images
-        result.log result.ended }
+    ensures { IsWhole D.Disk result }
 {
     match make_world::<M, D>(alloc, files) {
         Ok(opened) => opened,
@@ -103,7 +99,7 @@ fn play_on<M: Method>(
 }
 
 // Plays a batch that no worker sees.
-fn check_play<M: Seats>(rt: &impl Abort, alloc: Global) {
+fn check_play<M: Method>(rt: &impl Abort, alloc: Global) {
     let files = empty_files(alloc).expect(rt, "memory");
     let mut opened = open_world::<M, ModelFile>(rt, alloc, files);
     let batch = new_batch(alloc).expect(rt, "memory");
@@ -208,7 +204,7 @@ fn new_session(rt: &impl Abort, alloc: Global) -> (Asker, AskReceiver) {
 }
 
 // Gives each worker of a world a turn. A round is due after each tick.
-fn check_turns<M: Seats, D: Disk + Drop>(
+fn check_turns<M: Method, D: Disk + Drop>(
     rt: &(impl Wait + Abort),
     alloc: Global,
     files: FourFiles<D>,
@@ -260,7 +256,7 @@ impl<D: Disk + Drop> Watch<D> for Deaf {
 // The workers of a new world in threads.
 type Running<M> = Workers<M, ModelFile, Open, Open, Open>;
 
-fn start_workers<R: Threads + Wait + Abort + Copy + Send + 'static, M: Seats + Send + 'static>(
+fn start_workers<R: Threads + Wait + Abort + Copy + Send + 'static, M: Method + Send + 'static>(
     rt: &R,
     alloc: Global,
 ) -> (Running<M>, AskChannel) {
@@ -287,7 +283,7 @@ fn play_session(rt: &(impl Wait + Abort), alloc: Global, asks: AskChannel) {
     is_posted(rt, awaited, 1, b"tick 1: + =1\n");
 }
 
-fn check_running<R: Threads + Wait + Abort + Copy + Send + 'static, M: Seats + Send + 'static>(
+fn check_running<R: Threads + Wait + Abort + Copy + Send + 'static, M: Method + Send + 'static>(
     rt: &R,
     alloc: Global,
 ) {

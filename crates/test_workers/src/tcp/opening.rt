@@ -9,7 +9,6 @@ use shared_capture::{Front, Method, Pong, Zig};
 use std::alloc::Global;
 use std::process::Abort;
 use worker_steps::Opened;
-use worker_threads::Seats;
 use world_actions::Refusal;
 use world_ticks::Cells;
 
@@ -43,7 +42,7 @@ fn word_of<M: Method>(front: &mut Front<M>, cell: usize) -> Option<u64> {
 }
 
 // The world in these files, opened for its workers.
-fn seated<M: Seats>(
+fn seated<M: Method>(
     rt: &impl Abort,
     alloc: Global,
     files: FourFiles<ModelFile>,
@@ -90,7 +89,7 @@ fn is_world<M: Method>(
     is_started(rt, alloc, opened);
 }
 
-fn try_open<M: Seats>(rt: &impl Abort, alloc: Global) {
+fn try_open<M: Method>(rt: &impl Abort, alloc: Global) {
     let (mut opened, from) = seated::<M>(rt, alloc, played(rt, alloc));
     is_world(rt, alloc, &mut opened, from);
     drop(opened);
@@ -103,7 +102,7 @@ fn opens_worlds_for_their_workers(rt: HostRuntime) {
 }
 
 // Returns the refusal of these files, and if image.a still has these bytes.
-fn refused<M: Seats>(
+fn refused<M: Method>(
     alloc: Global,
     files: FourFiles<ModelFile>,
     image: &[u8],
@@ -112,7 +111,7 @@ fn refused<M: Seats>(
     Some((refusal, files.image_a.now() == image))
 }
 
-fn try_refused<M: Seats>(rt: &impl Abort, alloc: Global, image: &[u8], reason: Refusal) {
+fn try_refused<M: Method>(rt: &impl Abort, alloc: Global, image: &[u8], reason: Refusal) {
     let answer = refused::<M>(alloc, files_of(rt, alloc, image), image);
     same(rt, "a refusal", answer, Some((reason, true)));
 }

@@ -1,7 +1,7 @@
 //! The publisher, which reports the ticks of open images to the log writer.
 ghost use Rattle.std.specs.Prelude.{◌≡◌, true};
-ghost use Rattle.shared_capture.specs.SignalWord.{SignalState, AreStored};
-ghost use Rattle.workers.specs.Publishing.{IsNext, reported};
+ghost use Rattle.shared_capture.specs.SignalWord.{SignalState, with_number, AreStored};
+ghost use Rattle.workers.specs.Publishing.{IsNext};
 
 use shared_capture::{Back, Method, SignalIn, SignalOut, meet_signal};
 use std::marker::Model;
@@ -32,7 +32,7 @@ impl Publisher {
     pub(crate) fn publish<M: Method>(&mut self, _back: &Back<M>, tick: u64)
         requires in_work { _back.now.working ≡ true }
         requires next { IsNext self.old tick }
-        ensures { self.new ≡ reported self.old tick }
+        ensures { self.new ≡ with_number self.old tick }
     {
         self.covers.publish(tick);
     }
@@ -41,7 +41,7 @@ impl Publisher {
     pub(crate) fn meet(&mut self, from: &mut SignalIn)
         requires { self.old.pair ≡ from.old.pair }
         ensures same { (self.new ≡ self.old) × (from.new ≡ from.old) }
-        ensures stored { AreStored self.new.ticks from.new.ticks }
+        ensures stored { AreStored self.new.numbers from.new.numbers }
     {
         meet_signal(&mut self.covers, from);
     }

@@ -31,10 +31,10 @@ pub(crate) fn step<M: Method, D: Disk>(
 )
     requires step { AreInStep images.old.keeper back.old }
     requires next { IsNext covers.old tick }
-    requires fits { IsTrue D.honest → WriterFits D.content images.old }
+    requires fits { IsTrue D.honest → WriterFits D.Disk images.old }
     requires left { 0 < left_of images.old.keeper }
     ensures step { AreInStep images.new.keeper back.new }
-    ensures fits { IsTrue D.honest → WriterFits D.content images.new }
+    ensures fits { IsTrue D.honest → WriterFits D.Disk images.new }
     ensures faults { ReportsFaults D.faults images.old images.new }
     ensures less { left_of images.new.keeper < left_of images.old.keeper }
     ensures calls { OneCalledAtMostOnce D.called images.old.image_a images.new.image_a
@@ -44,8 +44,8 @@ pub(crate) fn step<M: Method, D: Disk>(
     ensures runs { RoundRuns back.old images.new.keeper back.new }
     ensures publishes { Publishes tick images.new.keeper covers.old covers.new }
     ensures follows { (opening : Writer D)
-        → FollowsRounds D.content D.may_leave D.honest opening images.old back.old
-        → FollowsRounds D.content D.may_leave D.honest opening images.new back.new }
+        → FollowsRounds D.Disk opening images.old back.old
+        → FollowsRounds D.Disk opening images.new back.new }
 {
     let ImageAnswer::Opened(_) = images
         .keeper

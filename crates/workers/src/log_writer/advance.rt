@@ -28,8 +28,8 @@ pub(crate) fn advance<D: Disk + Drop>(
         × (result ≡ cover_answer log.old.keeper tick queue.old.items)
         × (queue.new.items ≡ uncovered log.old.keeper tick queue.old.items) }
     ensures advances { IsTrue D.honest → (logs : Logs)
-        → LogStands D.content D.may_leave log.old logs
-        → (next : Logs) × LogStands D.content D.may_leave log.new next
+        → LogStands D.Disk log.old logs
+        → (next : Logs) × LogStands D.Disk log.new next
         × Advances tick logs queue.old.items result next queue.new.items }
     ensures started { log.old.keeper.starting ≡ false → log.new.keeper.starting ≡ false }
     ensures fits { IsTrue D.honest

@@ -12,12 +12,13 @@ use circular_buffer::HeapCircularBuffer;
 use disk_model::Disk;
 use std::alloc::{AllocError, Global};
 use std::marker::Model;
+use std::snapshot::Snapshot;
 use std::sync::Wait;
 
-// The last tick that was answered, and the last one that a post answered.
+// The last tick that was answered, and the last one that a post answered. Only clauses read them.
 #[derive(Drop)]
 pub struct Given {
-    answered: u64,
+    answered: Snapshot<u64>,
     posted: LastPost,
 }
 
@@ -30,22 +31,23 @@ impl Given {
         receipt: Receipt,
         holding: &Holding<'_, D>,
     )
-        requires next { next.number ≡ self.old.answered + 1 }
+        requires next { next.number ≡ self.old.answered.value + 1 }
         requires durable { next.number ≤ receipt }
-        requires held { IsTrue D.honest → IsDurable D.content D.may_leave holding.now next.number }
-        ensures { self.new
-            ≡ record { answered = next.number; posted = record { tick = next.number } } }
+        requires held { IsTrue D.honest → IsDurable D.Disk holding.now next.number }
+        ensures answered { self.new.answered.value ≡ next.number }
+        ensures posted { self.new.posted.tick.value ≡ next.number }
     {
-        self.answered = next.number();
+        self.answered = Snapshot::of(&next.number());
         next.post(rt, receipt, holding, &mut self.posted);
     }
 
     // Answers the next tick by a fault: the log is down.
     fn refuse<R: Wait>(&mut self, rt: &R, next: Waiting)
-        requires { next.number ≡ self.old.answered + 1 }
-        ensures { self.new ≡ record self.old { answered = next.number } }
+        requires { next.number ≡ self.old.answered.value + 1 }
+        ensures answered { self.new.answered.value ≡ next.number }
+        ensures posted { self.new.posted ≡ self.old.posted }
     {
-        self.answered = next.number();
+        self.answered = Snapshot::of(&next.number());
         next.refuse(rt);
     }
 }
@@ -65,11 +67,11 @@ impl Model for Answers {
     ghost view = { λ a. record {
       waiting = a.waiting.items;
       room = a.waiting.capacity;
-      answered = a.given.answered;
-      posted = a.given.posted.tick;
+      answered = a.given.answered.value;
+      posted = a.given.posted.tick.value;
     } };
 
-    ghost invariant = { λ a. AreNext a.given.answered a.waiting.items };
+    ghost invariant = { λ a. AreNext a.given.answered.value a.waiting.items };
 }
 
 impl Answers {
@@ -81,7 +83,7 @@ impl Answers {
         Ok(Answers {
             waiting: HeapCircularBuffer::with_capacity(alloc, room)?,
             given: Given {
-                answered: tick,
+                answered: Snapshot::of(&tick),
                 posted: LastPost::none_since(tick),
             },
         })
@@ -115,7 +117,7 @@ impl Answers {
         receipt: Receipt,
         holding: &Holding<'_, D>,
     )
-        requires held { IsTrue D.honest → IsDurable D.content D.may_leave holding.now receipt }
+        requires held { IsTrue D.honest → IsDurable D.Disk holding.now receipt }
         ensures posts { Posts receipt self.old self.new }
         ensures others { AreLater receipt self.new.waiting }
     {

@@ -38,7 +38,7 @@ pub(crate) fn keep(
 {
     log_queues();
     match item {
-        Item::Start(_) => false,
+        Item::Start(_) => unreachable!(),
         Item::Tick(ended) => {
             let Ended { tick, answer } = ended;
             let _ = ring.try_push_back(Record::Tick(tick));

@@ -13,7 +13,7 @@ const TRIES: u64 = 1_000_000_000;
 
 // Publishes the first ticks, one after the other.
 fn publish_all(mut out: SignalOut) -> SignalOut
-    requires { out.ticks ≡ [] }
+    requires { out.numbers ≡ [] }
     ensures { result.pair ≡ out.pair }
 {
     for tick in 0..TICKS {
@@ -45,13 +45,13 @@ fn run_both<R: Threads + Sync>(
     from: SignalIn,
 ) -> (SignalOut, SignalIn, bool)
     requires pair { out.pair ≡ from.pair }
-    requires fresh { out.ticks ≡ [] }
-    ensures { AreStored result.0.ticks result.1.ticks }
+    requires fresh { out.numbers ≡ [] }
+    ensures { AreStored result.0.numbers result.1.numbers }
 {
     let (mut out, loaded) = join(
         rt,
         move || -> SignalOut
-            requires { out.ticks ≡ [] }
+            requires { out.numbers ≡ [] }
             ensures { result.pair ≡ out.pair }
         { publish_all(out) },
         move || -> (SignalIn, bool)
@@ -66,7 +66,7 @@ fn run_both<R: Threads + Sync>(
 // Publishes a tick, and looks for it before and after a meeting.
 fn check_newest(rt: &impl Abort, out: &mut SignalOut, from: &mut SignalIn)
     requires pair { out.old.pair ≡ from.old.pair }
-    requires fresh { out.old.ticks ≡ [] }
+    requires fresh { out.old.numbers ≡ [] }
 {
     same(rt, from.latest(), 0);
     out.publish(3);

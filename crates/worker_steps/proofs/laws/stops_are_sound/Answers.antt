@@ -13,10 +13,10 @@ returns g c = λ m p w.
       append = c.actions_go_on.ensures.append;
       cells = c.actions_go_on.ensures.cells;
     } in
-    let files : FilesAre D.content D.may_leave = record {
+    let files : FilesAre D = record {
       left = λ writer images stands. c.images_stay.ensures.left writer.keeper images writer.image_a writer.image_b stands;
       newest = λ writer images stands. c.images_stay.ensures.newest writer.keeper images writer.image_a writer.image_b stands;
       idle = λ writer images stands rest. c.images_stay.ensures.idle writer.keeper images writer.image_a writer.image_b stands rest;
       logs = λ log logs stands. c.log_outcomes.ensures.reads log.keeper log.a log.b (record { journal = Writing logs; left = 0 }) stands;
     } in
-    ended D.content D.may_leave D.honest laws files m p w (c.law_of_recovery.ensures p.images.image_a p.images.image_b w.log.a w.log.b)
+    ended D laws files m p w (c.law_of_recovery.ensures p.images.image_a p.images.image_b w.log.a w.log.b)

@@ -7,7 +7,7 @@ returns-clause-sound g c = λ honest.
     c.meet_workers.ensures.is_mutator c.meet_workers.ensures.is_checkpointer c.meet_workers.ensures.is_log_writer c.meet_workers.ensures.met
 
 pub returns-clause-heard : goal.returns-clause-heard
-returns-clause-heard g c = heard_of_down c.meet_workers.new.log_writer.reported_down.ticks c.meet_workers.new.mutator.heard.ticks c.meet_workers.new.log_writer.down
+returns-clause-heard g c = heard_of_down c.meet_workers.new.log_writer.reported_down.numbers c.meet_workers.new.mutator.heard.numbers c.meet_workers.new.log_writer.down
     c.meet_workers.ensures.is_log_writer.reports c.meet_workers.ensures.met.heard
 
 pub returns-clause-in_turn : goal.returns-clause-in_turn

@@ -30,12 +30,12 @@ returns-in-Ok-clause-sound g c = λ honest newest first ticks acknowledged follo
     let left = c.start.new.self.files in
     let on = c.start.ensures.follows honest first ticks acknowledged follows in
     let sound = c.followed_files_are_sound.ensures.begun c.start.new.self first ticks acknowledged (c.start.ensures.newest newest) on in
-    both_sound D.content D.may_leave first ticks acknowledged c.into_parts.result.files left c.seated.result (λ opened. opened.images) (λ opened. opened.log)
+    both_sound D first ticks acknowledged c.into_parts.result.files left c.seated.result (λ opened. opened.images) (λ opened. opened.log)
     (c.into_parts.ensures.files) c.seated.ensures.files c.seated.ensures.refused sound
 
 pub returns-in-Err-clause-sound : goal.returns-in-Err-clause-sound
 returns-in-Err-clause-sound g c = λ honest newest first ticks acknowledged follows.
-    subst (λ (left : FourFiles g.row.D.Denot). AreSound g.D.Disk.content g.D.Disk.may_leave left first ticks acknowledged) (sym c.into_files.ensures)
+    subst (λ (left : FourFiles g.row.D.Denot). AreSound g.D.Disk left first ticks acknowledged) (sym c.into_files.ensures)
     (c.followed_files_are_sound.ensures.begun c.start.new.self first ticks acknowledged (c.start.ensures.newest newest)
     (c.start.ensures.follows honest first ticks acknowledged follows))
 

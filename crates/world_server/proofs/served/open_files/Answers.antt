@@ -9,8 +9,8 @@ returns-in-Ok-start_world-clause-stands g c = λ honest.
     let D = g.D.Disk in
     let begun = c.in-Ok.found.begun in
     let opened = c.in-Ok-start_world.opened in
-    subst (λ tick. StandsOpened D.content D.may_leave c.args.files tick opened.front.live opened.images opened.log) (sym c.ended.ensures)
-    (stands_opened D.content D.may_leave c.args.files begun.engine begun.from opened.front.live opened.images opened.log opened.ended
+    subst (λ tick. StandsOpened D c.args.files tick opened.front.live opened.images opened.log) (sym c.ended.ensures)
+    (stands_opened D c.args.files begun.engine begun.from opened.front.live opened.images opened.log opened.ended
     (c.in-Ok.ensures.read honest) (c.in-Ok-start_world.ensures.stands honest) c.in-Ok-start_world.ensures.ended)
 
 pub returns-in-Ok-start_world-clause-keeps : goal.returns-in-Ok-start_world-clause-keeps
@@ -19,13 +19,13 @@ returns-in-Ok-start_world-clause-keeps g c = λ honest.
     let begun = c.in-Ok.found.begun in
     let opened = c.in-Ok-start_world.opened in
     let read = c.in-Ok.ensures.read honest in
-    subst (λ tick. KeepsWorld D.content D.may_leave c.args.files tick (files_of opened.images opened.log)) (sym c.ended.ensures)
-    (keeps_world D.content D.may_leave c.args.files begun.engine begun.from _ read (c.in-Ok-start_world.ensures.sound honest read.newest))
+    subst (λ tick. KeepsWorld D c.args.files tick (files_of opened.images opened.log)) (sym c.ended.ensures)
+    (keeps_world D c.args.files begun.engine begun.from _ read (c.in-Ok-start_world.ensures.sound honest read.newest))
 
 pub returns-in-Err-start_world-clause-left : goal.returns-in-Err-start_world-clause-left
 returns-in-Err-start_world-clause-left g c = λ honest.
     let D = g.D.Disk in
     let begun = c.in-Ok.found.begun in
     let read = c.in-Ok.ensures.read honest in
-    subst (λ tick. KeepsWorld D.content D.may_leave c.args.files tick c.in-Err-start_world.files) (sym c.ended.ensures)
-    (keeps_world D.content D.may_leave c.args.files begun.engine begun.from c.in-Err-start_world.files read (c.in-Err-start_world.ensures.sound honest read.newest))
+    subst (λ tick. KeepsWorld D c.args.files tick c.in-Err-start_world.files) (sym c.ended.ensures)
+    (keeps_world D c.args.files begun.engine begun.from c.in-Err-start_world.files read (c.in-Err-start_world.ensures.sound honest read.newest))

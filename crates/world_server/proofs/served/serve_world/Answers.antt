@@ -5,15 +5,14 @@ pub returns-clause-sound : goal.returns-clause-sound
 returns-clause-sound g c = λ honest.
     let D = g.D.Disk in
     let made = c.in_ok-recovered.ensures in
-    let opened = c.in_ok-recovered.opened in
     let e = c.serve_opened.ensures in
-    served_sound D.content D.may_leave c.args.files c.in_ok-recovered.recovered opened.front.live opened.images opened.log opened.ended c.serve_opened.result
+    served_sound D c.args.files c.in_ok-recovered.recovered c.in_ok-recovered.opened c.serve_opened.result
     (λ s. s.recovered) (λ s. s.stopped.workers.mutator) (λ s. s.stopped.workers.checkpointer) (λ s. s.stopped.workers.log_writer)
     (made.stands honest) (made.keeps honest) made.tick e.recovered (e.sound honest) e.acked
 
 pub returns-clause-left : goal.returns-clause-left
 returns-clause-left g c = λ honest.
-    given_back g.D.Disk.content g.D.Disk.may_leave c.args.files _ c.in_ok-recovered.recovered c.serve_opened.result (c.in_ok-recovered.ensures.keeps honest) c.serve_opened.ensures.left
+    given_back g.D.Disk c.args.files _ c.in_ok-recovered.recovered c.serve_opened.result (c.in_ok-recovered.ensures.keeps honest) c.serve_opened.ensures.left
 
 pub returns-clause-printed : goal.returns-clause-printed
 returns-clause-printed g c = λ known.

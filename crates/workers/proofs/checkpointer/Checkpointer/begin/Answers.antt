@@ -15,11 +15,11 @@ invariant_of-self-then-is_due g c =
     let idle = subst (λ (p : Imaging g.row.D.Denot). p.images.keeper.phase ≡ Idle) (sym c.self.view_is) c.requires.idle in
     let due = c.is_due.ensures.due c.if-is_due.true in
     let begun : ImageWriter g.row.D.Denot = record { keeper = c.begin.new.self; image_a = old.image_a; image_b = old.image_b } in
-    let begins : Begins D.content D.may_leave D.honest c.in-Some.tick old begun =
+    let begins : Begins D c.in-Some.tick old begun =
     λ images stood.
-    subst (λ (k : Progress). ImagesStand D.content D.may_leave (record { keeper = k; image_a = old.image_a; image_b = old.image_b }) (with_round c.in-Some.tick images)) (sym c.begin.ensures.begun)
+    subst (λ (k : Progress). ImagesStand D (record { keeper = k; image_a = old.image_a; image_b = old.image_b }) (with_round c.in-Some.tick images)) (sym c.begin.ensures.begun)
     (c.images_stay.ensures.begun old.keeper c.in-Some.tick images old.image_a old.image_b idle due.0 stood) in
-    checkpointer_begins D.content D.may_leave D.honest
+    checkpointer_begins D
     (record { back = inside.back; covers = inside.covers; images = old; opening = inside.opening.value; over = inside.over }) c.in-Some.tick begun c.look.new.self c.self.invariant
     c.begin.ensures.begun refl refl idle c.look.ensures.same
     (fresh_looked c.in-Some.tick c.look.result inside.back c.look.new.self c.in-Some.is c.look.ensures.known (λ off. (c.in-Some.ensures.found off).0) (c.self.invariant.fresh idle))

@@ -23,14 +23,14 @@ returns-in_default g c =
       takes = λ is. image_calls_none g.D.Disk.called (target_of old.keeper.newest) old.keeper.phase old.image_a c.step.new.image_a old.image_b c.step.new.image_b is e.calls;
       runs = runs_on given old.keeper new back next not e.taken e.idle e.down e.goes_on busy c.requires.step;
       publishes = publishes_none c.args.tick new c.args.covers.now (stays_busy given old.keeper new not e.idle e.down e.goes_on busy);
-      follows = λ opening f. follows_on g.D.Disk.content g.D.Disk.may_leave g.D.Disk.honest given opening old
+      follows = λ opening f. follows_on g.D.Disk given opening old
           (record { keeper = new; image_a = c.step.new.image_a; image_b = c.step.new.image_b }) back next not e.taken e.ended e.idle e.down e.goes_on busy e.stands f;
     }
 
 pub returns-clause-follows : goal.returns-clause-follows
 returns-clause-follows g c opening f =
     let e = c.in-Opened.ensures in
-    follows_opened g.D.Disk.content g.D.Disk.may_leave g.D.Disk.honest c.in-Opened.field-0 opening c.args.images.now
+    follows_opened g.D.Disk c.in-Opened.field-0 opening c.args.images.now
     (record { keeper = c.step.new.self; image_a = c.step.new.image_a; image_b = c.step.new.image_b }) c.args.back.now c.step.new.from c.finish.new.self
     e.taken e.ended e.all_taken (is_busy c.args.images.now.keeper c.requires.left) c.requires.step c.finish.ensures.done c.finish.ensures.same.1 e.stands f
 

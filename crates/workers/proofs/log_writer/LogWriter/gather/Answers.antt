@@ -1,5 +1,7 @@
 use Rattle.std.proofs.Common.{rules, ◌≡◌, true, false, ◌∷◌, ◌++◌, [], sym, ◌∙◌}
-use Rattle.workers.proofs.Loggings.{took_then, took_few, end_append, one_stop}
+use Rattle.std.proofs.Math.Bool.{or-false}
+use Rattle.workers.specs.Logging.{is_stop}
+use Rattle.workers.proofs.Loggings.{took_then, took_few, end_append}
 use Rattle.workers.proofs.log_writer.LogWriter.gather.Goals as goal
 
 pub loop-self-preserved : goal.loop-self-preserved
@@ -12,7 +14,7 @@ loop-self-preserved g c =
       took = (
         known.took.0 ++ took.0 ∷ [],
         took_then _ _ _ known.took.0 (took.0 ∷ []) known.took.1 took.1,
-        took.2 ∙ (sym (one_stop took.0) ∙ sym (end_append known.took.0 (took.0 ∷ []) (sym known.took.2 ∙ going))),
+        took.2 ∙ (sym (or-false (is_stop took.0)) ∙ sym (end_append known.took.0 (took.0 ∷ []) (sym known.took.2 ∙ going))),
       );
       up = search rules;
       few = took_few _ _ (took.0 ∷ []) took.1 known.few;

@@ -13,16 +13,16 @@ pub post_all-requires : goal.post_all-requires
 post_all-requires g c = record {
   held = λ honest first stands.
       let up : c.self.inside.down ≡ false = ap (λ (w : Logging g.row.D.Denot). w.down) c.self.view_is ∙ c.requires.up in
-      subst (λ (b : Bool). Writes g.D.Disk.content g.D.Disk.may_leave c.advance.new.log c.advance.new.queue.items
-      c.latest-tick.new.self.ticks c.in-Acked.receipt b (content_in first) (records_of c.self.inside.from.items)) up
-      (reported_on g.D.Disk.content g.D.Disk.may_leave g.D.Disk.honest _ c.self.invariant c.latest-tick.new.self
+      subst (λ (b : Bool). Writes g.D.Disk c.advance.new.log c.advance.new.queue.items
+      c.latest-tick.new.self.numbers c.in-Acked.receipt b (content_in first) (records_of c.self.inside.from.items)) up
+      (reported_on g.D.Disk _ c.self.invariant c.latest-tick.new.self
       c.latest-tick.result c.advance.new.log c.advance.new.queue c.advance.result c.in-Acked.receipt (inr c.in-Acked.is) c.latest-tick.ensures.loaded c.advance.ensures.advances honest first stands);
 }
 
 pub invariant_of-self-in-Down : goal.invariant_of-self-in-Down
 invariant_of-self-in-Down g c =
     let e = c.advance.ensures in
-    advanced g.D.Disk.content g.D.Disk.may_leave g.D.Disk.honest _ c.self.invariant c.latest-tick.new.self c.latest-tick.result
+    advanced g.D.Disk _ c.self.invariant c.latest-tick.new.self c.latest-tick.result
     c.advance.new.log c.advance.new.queue c.self.inside.answers c.advance.result c.self.inside.acked
     (e.started c.self.invariant.started) e.fits e.follows e.end e.ring refl refl (λ same. same) c.self.invariant.durable (inl refl) c.latest-tick.ensures.loaded e.advances
 
@@ -40,14 +40,14 @@ invariant_of-self-in-Acked g c =
       | inl same ↦ inl (is ∙ same)
       | inr now ↦ inr (c.in-Acked.is ∙ ap (λ k. answer.Acked k) (sym (is ∙ now ∙ c.tick.ensures)))
     ] in
-    advanced g.D.Disk.content g.D.Disk.may_leave g.D.Disk.honest _ c.self.invariant c.latest-tick.new.self c.latest-tick.result
+    advanced g.D.Disk _ c.self.invariant c.latest-tick.new.self c.latest-tick.result
     c.advance.new.log c.advance.new.queue c.post_all.new.self c.advance.result c.max-self-inside.result
     (e.started c.self.invariant.started) e.fits e.follows e.end e.ring posts.room count posts.posted (posts.most c.max-self-inside.result least greatest) which c.latest-tick.ensures.loaded e.advances
 
 pub invariant_of-self-in-Idle : goal.invariant_of-self-in-Idle
 invariant_of-self-in-Idle g c =
     let e = c.advance.ensures in
-    advanced g.D.Disk.content g.D.Disk.may_leave g.D.Disk.honest _ c.self.invariant c.latest-tick.new.self c.latest-tick.result
+    advanced g.D.Disk _ c.self.invariant c.latest-tick.new.self c.latest-tick.result
     c.advance.new.log c.advance.new.queue c.self.inside.answers c.advance.result c.self.inside.acked
     (e.started c.self.invariant.started) e.fits e.follows e.end e.ring refl refl (λ same. same) c.self.invariant.durable (inl refl) c.latest-tick.ensures.loaded e.advances
 

@@ -7,7 +7,8 @@ use Rattle.action_log.specs.LogSteps.{LogsStep}
 use Rattle.action_log.specs.Stands.{Stands}
 use Rattle.workers.specs.Logging.{receipt_by}
 use Rattle.workers.proofs.Calling.{log_calls_one}
-use Rattle.workers.proofs.Receipts.{not_true, step_receipt}
+use Rattle.std.proofs.lemmas.Bool.{false_from_ne_true}
+use Rattle.workers.proofs.Receipts.{step_receipt}
 use Rattle.workers.proofs.log_writer.advance.advance.Goals as goal
 
 pub returns-in-Idle-clause-advances : goal.returns-in-Idle-clause-advances
@@ -32,7 +33,7 @@ returns-in-Idle-clause-receipt g c = λ stays.
     let keeper = c.args.log.now.keeper in
     let new = c.step.new.self in
     let up : keeper.down ≡ false = search rules in
-    let still : new.down ≡ false = not_true new.down (λ down. stays (e.down.1 down)) in
+    let still : new.down ≡ false = false_from_ne_true new.down (λ down. stays (e.down.1 down)) in
     let last = new.base + new.count in
     step_receipt c.step.result keeper.phase last (λ tick is. ((e.receipt tick).0 is).0) (λ at. (e.receipt last).1 (at, up, still, refl))
     ∙ ap (λ (a : LogAnswer). receipt_by a keeper.phase last) (sym c.in-Idle.is ∙ c.cover.ensures.answer)

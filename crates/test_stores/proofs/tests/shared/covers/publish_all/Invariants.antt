@@ -6,5 +6,5 @@ use Rattle.test_stores.proofs.tests.shared.covers.publish_all.Given as goal
 abbrev pub invariant-loop-tick : goal.invariant-loop-tick
 invariant-loop-tick l = record {
   pair : l.out.pair ≡ l.initial.out.pair;
-  below : (i earlier : ℕ) → slice_get l.out.ticks i ≡ Some earlier → earlier ≤ l.tick;
+  below : (i earlier : ℕ) → slice_get l.out.numbers i ≡ Some earlier → earlier ≤ l.tick;
 }

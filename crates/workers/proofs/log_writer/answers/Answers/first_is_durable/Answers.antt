@@ -16,4 +16,4 @@ returns-in-Some-clause-others c = λ later.
     let is : Some c.in-Some.first.now ≡ slice_get c.self.inside.waiting.items 0 = sym (ap option_copied c.in-Some.is) ∙ c.front.ensures in
     let least : c.args.receipt < c.in-Some.first.now.number = search rules in
     subst (λ (a : Answering). AreLater c.args.receipt a.waiting) c.self.view_is
-    (first_later c.args.receipt c.self.inside.given.answered c.self.inside.waiting.items c.in-Some.first.now c.self.invariant is least)
+    (first_later c.args.receipt c.self.inside.given.answered.value c.self.inside.waiting.items c.in-Some.first.now c.self.invariant is least)

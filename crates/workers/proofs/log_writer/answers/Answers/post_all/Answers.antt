@@ -1,7 +1,6 @@
-use Rattle.std.proofs.Common.{rules, ◌≡◌, ◌≤◌, ◌+◌, false, sym, ap, ◌∙◌, subst, Some, slice_get, List, drop}
+use Rattle.std.proofs.Common.{rules, ℕ, ◌≡◌, ◌≤◌, ◌+◌, false, sym, ap, ◌∙◌, subst, Some, slice_get, List, drop}
 use Rattle.circular_buffer.specs.Buffer.{Buffer, buffer}
 use Rattle.workers.specs.Posts.{Unposted}
-use Rattle.workers.specs.declared.log_writer.answers.Given.{Given}
 use Rattle.workers.specs.Answering.{Posts}
 use Rattle.workers.specs.Items.{records_of}
 use Rattle.workers.specs.Logging.{content_in}
@@ -16,7 +15,7 @@ post-requires-clause-held g c = λ honest first stands.
     let next = c.in-Some.next in
     let is : Some next ≡ slice_get inside.waiting.items 0 = sym c.in-Some.is ∙ c.pop_front.ensures.value in
     let durable : next.number ≤ c.args.receipt = search rules in
-    writes_below g.D.Disk.content g.D.Disk.may_leave held.log held.ring.items held.covers.ticks c.args.receipt next.number false (content_in first) (records_of held.from.items) durable
+    writes_below g.D.Disk held.log held.ring.items held.covers.numbers c.args.receipt next.number false (content_in first) (records_of held.from.items) durable
     (c.requires.held honest first stands)
 
 pub loop-receipt-preserved-in-Some : goal.loop-receipt-preserved-in-Some
@@ -27,10 +26,11 @@ loop-receipt-preserved-in-Some g c =
     let is : Some first ≡ slice_get inside.waiting.items 0 = sym c.in-Some.is ∙ c.pop_front.ensures.value in
     let front = first_is inside.waiting.items first is in
     let durable : first.number ≤ receipt = search rules in
-    let next : first.number ≡ inside.given.answered + 1 = search rules in
+    let next : first.number ≡ inside.given.answered.value + 1 = search rules in
     let popped : c.pop_front.new.self ≡ buffer front.0 inside.waiting.capacity = c.pop_front.ensures.items ∙ ap (λ (l : List Unposted). buffer (drop 1 l) inside.waiting.capacity) front.1 in
-    subst
-    (λ (b : Buffer Unposted). Posts receipt c.args.self.now (record { waiting = b.items; room = b.capacity; answered = c.post.new.self.answered; posted = c.post.new.self.posted.tick })) (sym popped)
-    (subst (λ (a : Given). Posts receipt c.args.self.now (record { waiting = front.0; room = inside.waiting.capacity; answered = a.answered; posted = a.posted.tick })) (sym c.post.ensures)
-    (posts_more receipt c.args.self.now (record { waiting = inside.waiting.items; room = inside.waiting.capacity; answered = inside.given.answered; posted = inside.given.posted.tick }) first front.0
-    (subst (Posts receipt c.args.self.now) (sym c.self.view_is) c.loop-receipt.invariant) front.1 durable next))
+    let e = c.post.ensures in
+    subst (λ (x : Buffer Unposted × ℕ × ℕ). Posts receipt c.args.self.now (record { waiting = x.0.items; room = x.0.capacity; answered = x.1; posted = x.2 }))
+    (λ i. (sym popped i, sym e.answered i, sym e.posted i))
+    (posts_more receipt c.args.self.now
+    (record { waiting = inside.waiting.items; room = inside.waiting.capacity; answered = inside.given.answered.value; posted = inside.given.posted.tick.value }) first front.0
+    (subst (Posts receipt c.args.self.now) (sym c.self.view_is) c.loop-receipt.invariant) front.1 durable next)

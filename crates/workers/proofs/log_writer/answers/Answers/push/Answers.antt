@@ -10,4 +10,4 @@ invariant_of-self c =
     let old = c.self.inside in
     let pushed : c.try_push_back.new.self ≡ buffer (old.waiting.items ++ c.args.next ∷ []) old.waiting.capacity = search rules in
     let next = subst (λ (a : Answering). c.args.next.number ≡ a.answered + length a.waiting + 1) (sym c.self.view_is) c.requires.next in
-    subst (λ (b : Buffer Unposted). AreNext old.given.answered b.items) (sym pushed) (next_more old.given.answered old.waiting.items c.args.next c.self.invariant next)
+    subst (λ (b : Buffer Unposted). AreNext old.given.answered.value b.items) (sym pushed) (next_more old.given.answered.value old.waiting.items c.args.next c.self.invariant next)

@@ -5,7 +5,7 @@ use Rattle.shared_capture.specs.Seats.{ListsChanges}
 use Rattle.shared_capture.proofs.Fronts.{front_made, start_seen}
 use Rattle.shared_capture.proofs.Backs.{back_made}
 use Rattle.shared_capture.proofs.Changes.{lists_none}
-use Rattle.shared_capture.proofs.pair.seats.Goals as goal
+use Rattle.shared_capture.proofs.pair.seat_pair.Goals as goal
 
 pub invariant_of-result : goal.invariant_of-result
 invariant_of-result g c =
@@ -21,5 +21,6 @@ invariant_of-result g c =
 pub invariant_of-result-2 : goal.invariant_of-result-2
 invariant_of-result-2 g c = back_made _ _ _ _ _ _ _ _ _ _ _ c.in_ok-table.ensures.1 (ap (λ z. z.shared.table_id) c.in_ok-table.ensures.0) (search rules) c.len-cells.ensures
 
-pub returns : goal.returns
-returns g c = start_seen g.M.Method.KIND _ _ _ _ _ _ _ c.in_ok-table.ensures.1 (subst (λ (z : ℕ). IsFull z c.in_ok-marks.marks.items) c.len-cells.ensures c.in_ok-marks.ensures) (search rules)
+pub returns-clause-ok : goal.returns-clause-ok
+returns-clause-ok g c = start_seen g.M.Method.KIND _ _ _ _ _ _ _ c.in_ok-table.ensures.1
+    (subst (λ (z : ℕ). IsFull z c.in_ok-marks.marks.items) c.len-cells.ensures c.in_ok-marks.ensures) (search rules)

@@ -3,7 +3,7 @@ use Rattle.batches.specs.Answer.{answer}
 use Rattle.workers.specs.Posts.{AskedBatch, Unposted}
 use Rattle.workers.proofs.Histories.{owes_tick, owes_nothing}
 use Rattle.workers.proofs.Turning.{runs_of, ran_tick}
-use Rattle.workers.proofs.mutator.Mutator.run_batch.Goals as goal
+use Rattle.workers.proofs.mutator.Mutator.owe_tick.Goals as goal
 
 pub invariant_of-self-2 : goal.invariant_of-self-2
 invariant_of-self-2 g c =
