@@ -14,7 +14,7 @@ use std::fs::{File, Files};
 use std::io;
 use std::time::Clock;
 use world_actions::Refusal;
-use world_folder::{Ending, Exit, failure_of, open_existing, opened};
+use world_folder::{Ending, Exit, SystemFolder, blame, failure_of, open_files};
 
 /// The folder of the world.
 const FOLDER: &str = "world";
@@ -24,7 +24,7 @@ const EVERY: u32 = 4096;
 
 fn main(rt: HostRuntime) -> Exit {
     // Before a file of a world: it must not get the descriptor of a standard stream that is closed.
-    let null = opened(rt.alloc(), "/dev", "null", take_standard_streams(&rt));
+    let null = blame(rt.alloc(), "/dev", "null", take_standard_streams(&rt));
     let _null = match null {
         Ok(null) => null,
         Err(ending) => return Exit::plain(ending),
@@ -36,10 +36,11 @@ fn main(rt: HostRuntime) -> Exit {
 fn play<R: Input + Print + Eprint + Clock + Files<File = File> + AllocGlobal + Clone + Drop>(
     rt: &R,
 ) -> Result<(), Ending> {
-    let files = open_existing(rt, FOLDER)?;
+    let mut folder = SystemFolder::new(rt, FOLDER);
+    let files = open_files(&mut folder)?;
     let mut world = match SerialWorld::<PlainCopy, FileDisk>::open(rt.alloc(), files, EVERY) {
         Ok(world) => world,
-        Err((files, Refusal::Device)) => return Err(failure_of(rt.alloc(), FOLDER, files)),
+        Err((files, Refusal::Device)) => return Err(failure_of(&folder, files)),
         Err((_, refusal)) => return Err(Ending::Fault(refusal)),
     };
     let (mut input, mut output) = (rt.reader(), io::writer(rt));

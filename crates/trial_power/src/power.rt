@@ -16,7 +16,7 @@ use std::thread::Threads;
 use std::time;
 use trial_kit::{CutTally, Random};
 use world_actions::Refusal;
-use world_folder::open_existing;
+use world_folder::{SystemFolder, open_files};
 
 /// How often the power is cut for each method.
 pub const CUTS: u64 = 500;
@@ -36,7 +36,8 @@ pub fn cut_power<
     M: Method + Send + 'static,
 >(rt: &R, folder: &str, seed: u64) -> Result<CutTally, Refusal> {
     let alloc = rt.alloc();
-    let mut files = open_existing(rt, folder).map_err(|_: _| Refusal::Device)?;
+    let mut folder = SystemFolder::new(rt, folder);
+    let mut files = open_files(&mut folder).map_err(|_: _| Refusal::Device)?;
     let left = read_left(alloc, &mut files)?;
     let clock = Arc::new(alloc, AtomicU64::new(1))?;
     let served = play::<R, M>(rt, alloc, files, &clock)?;

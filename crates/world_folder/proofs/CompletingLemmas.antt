@@ -6,6 +6,7 @@ use Rattle.std.proofs.lemmas.Grind.{common_steps}
 use Rattle.std.proofs.lemmas.Bool.Decides.{nat_tests}
 use Rattle.world_actions.specs.declared.refusal.Refusal.TheVariants.{NotEmpty}
 use Rattle.file_format.specs.declared.gate.TheConstants.{OPEN_GATE}
+use Rattle.disk_model.specs.declared.disk.Disk.{Ghosts}
 use Rattle.disk_model.specs.declared.four_files.FourFiles.{FourFiles}
 use Rattle.image_files.specs.Image.{Closed, image_of}
 use Rattle.action_log.specs.Segment.{ClosedSegment, IsSegment}
@@ -16,7 +17,7 @@ use Rattle.world_folder.specs.Making.{ReportsUnmade}
 use Rattle.world_folder.specs.declared.ending.Ending.{Ending}
 use Rattle.world_folder.specs.declared.ending.Ending.TheVariants.{Fault, Occupied}
 use Rattle.world_folder.specs.declared.entry.Identity.{Identity}
-use Rattle.world_folder.specs.declared.look.TheConstants.{IMAGE_HEAD, SEGMENT_HEAD}
+use Rattle.world_folder.specs.declared.heads.TheConstants.{IMAGE_HEAD, SEGMENT_HEAD}
 use Rattle.disk_model.specs.declared.world_file.WorldFile.{WorldFile}
 use Rattle.disk_model.specs.declared.world_file.WorldFile.TheVariants.{ImageA, ImageB, LogA, LogB}
 
@@ -42,23 +43,23 @@ segment_closed bytes not =
 empty_not_open : (header : ℕ) → 1 ≤ header → (bytes : List ℕ) → bytes ≡ [] → ¬ IsOpenFile header bytes
 empty_not_open header some bytes is = λ opened. (let none : length bytes ≡ 0 = ap length is in absurd (omega (arith, some, none, opened.0)))
 
-module _ {D : Type 0} (content : D → List ℕ) (leaves : D → List ℕ → Type 0) where
-  image_ready : (file : WorldFile) (there read : Option D) (disk : D) (before after : List Act)
-      → ¬ IsOpenThere content IMAGE_HEAD there → KeepsThere content leaves there read → IsReady content leaves file read disk before after → image_of (content disk) ≡ Closed
-  image_ready file None None disk before after not kept ready = image_closed (content disk) (empty_not_open IMAGE_HEAD (omega arith) (content disk) ready.2)
-  image_ready file None (Some new) disk before after not kept ready = absurd cc
-  image_ready file (Some old) None disk before after not kept ready = absurd kept
-  image_ready file (Some old) (Some new) disk before after not kept ready = ap image_of (ap content ready.0 ∙ kept.same_content) ∙ image_closed (content old) not
+module _ {D : Type 0} (disk : Ghosts D) where
+  image_ready : (file : WorldFile) (there read : Option D) (ready : D) (before after : List Act)
+      → ¬ IsOpenThere disk.content IMAGE_HEAD there → KeepsThere disk there read → IsReady disk file read ready before after → image_of (disk.content ready) ≡ Closed
+  image_ready file None None it before after not kept ready = image_closed (disk.content it) (empty_not_open IMAGE_HEAD (omega arith) (disk.content it) ready.2)
+  image_ready file None (Some new) it before after not kept ready = absurd cc
+  image_ready file (Some old) None it before after not kept ready = absurd kept
+  image_ready file (Some old) (Some new) it before after not kept ready = ap image_of (ap disk.content ready.0 ∙ kept.same_content) ∙ image_closed (disk.content old) not
 
-  segment_ready : (file : WorldFile) (there read : Option D) (disk : D) (before after : List Act)
-      → ¬ IsOpenThere content SEGMENT_HEAD there → KeepsThere content leaves there read → IsReady content leaves file read disk before after → IsSegment (content disk) ClosedSegment
-  segment_ready file None None disk before after not kept ready = segment_closed (content disk) (empty_not_open SEGMENT_HEAD (omega arith) (content disk) ready.2)
-  segment_ready file None (Some new) disk before after not kept ready = absurd cc
-  segment_ready file (Some old) None disk before after not kept ready = absurd kept
-  segment_ready file (Some old) (Some new) disk before after not kept ready =
-      subst (λ (bytes : List ℕ). IsSegment bytes ClosedSegment) (sym (ap content ready.0 ∙ kept.same_content)) (segment_closed (content old) not)
+  segment_ready : (file : WorldFile) (there read : Option D) (ready : D) (before after : List Act)
+      → ¬ IsOpenThere disk.content SEGMENT_HEAD there → KeepsThere disk there read → IsReady disk file read ready before after → IsSegment (disk.content ready) ClosedSegment
+  segment_ready file None None it before after not kept ready = segment_closed (disk.content it) (empty_not_open SEGMENT_HEAD (omega arith) (disk.content it) ready.2)
+  segment_ready file None (Some new) it before after not kept ready = absurd cc
+  segment_ready file (Some old) None it before after not kept ready = absurd kept
+  segment_ready file (Some old) (Some new) it before after not kept ready =
+      subst (λ (bytes : List ℕ). IsSegment bytes ClosedSegment) (sym (ap disk.content ready.0 ∙ kept.same_content)) (segment_closed (disk.content old) not)
 
-  taken_closed : (identity : D → Identity) (files : FourFiles D) (before after : List Act) → AreTaken content leaves identity files before after → FilesAreClosed content files
+  taken_closed : (identity : D → Identity) (files : FourFiles D) (before after : List Act) → AreTaken disk identity files before after → FilesAreClosed disk.content files
   taken_closed identity files before after taken =
       let none = taken.none_open in
       let kept = taken.completed.kept in
@@ -83,8 +84,7 @@ closed_not_occupied file folder files (Occupied named) closed reported occupied 
 closed_not_occupied file folder files other closed reported occupied = absurd reported
 
 -- none of the files that were taken for a new world is named as one that may hold a world
-pub taken_not_occupied : {D : Type 0} (content : D → List ℕ) (leaves : D → List ℕ → Type 0) (identity : D → Identity)
-    (folder : List ℕ) (files : FourFiles D) (before after : List Act) (ending result : Ending)
-    → AreTaken content leaves identity files before after → ReportsUnmade content folder files ending → result ≡ ending → IsOccupied result → ⊥
-taken_not_occupied content leaves identity folder files before after ending result taken reported same occupied =
-    closed_not_occupied content folder files ending (taken_closed content leaves identity files before after taken) reported (subst IsOccupied same occupied)
+pub taken_not_occupied : {D : Type 0} (disk : Ghosts D) (identity : D → Identity) (folder : List ℕ) (files : FourFiles D) (before after : List Act) (ending result : Ending)
+    → AreTaken disk identity files before after → ReportsUnmade disk.content folder files ending → result ≡ ending → IsOccupied result → ⊥
+taken_not_occupied disk identity folder files before after ending result taken reported same occupied =
+    closed_not_occupied disk.content folder files ending (taken_closed disk identity files before after taken) reported (subst IsOccupied same occupied)

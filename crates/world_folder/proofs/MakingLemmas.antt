@@ -3,6 +3,7 @@ use Rattle.std.proofs.Common.{◌≡◌, ◌⊎◌, inl, inr, ⊎_elim, Ok, Err,
 use Rattle.std.specs.Path.{path_buf_bytes, path_join}
 use Rattle.world_actions.specs.declared.refusal.Refusal.{Refusal}
 use Rattle.world_actions.specs.declared.refusal.Refusal.TheVariants.{NoMemory, Device, NotEmpty, NoImage}
+use Rattle.disk_model.specs.declared.disk.Disk.{Ghosts}
 use Rattle.disk_model.specs.Disk.{Only}
 use Rattle.disk_model.specs.declared.four_files.FourFiles.{FourFiles}
 use Rattle.disk_model.specs.FourFiles.{EachFile, KeepsFile}
@@ -105,18 +106,18 @@ fresh_image : (image : Image) (words : List ℕ) → (image ≡ Closed) ⊎ (ima
 fresh_image image words (inl closed) = subst (IsFreshImage words) (sym closed) tt
 fresh_image image words (inr is) = subst (IsFreshImage words) (sym is) (refl, refl)
 
-module _ {D : Type 0} (file : D → List ℕ) (leaves : D → List ℕ → Type 0) where
+module _ {D : Type 0} (disk : Ghosts D) where
   -- a crash leaves of a synced file that was only read what it held
-  left_as : (old new : D) (left : List ℕ) → KeepsFile file leaves old new → Only (file old) (leaves old) → leaves new left → left ≡ file old
+  left_as : (old new : D) (left : List ℕ) → KeepsFile disk old new → Only (disk.content old) (disk.may_leave old) → disk.may_leave new left → left ≡ disk.content old
   left_as old new left kept only may = only left (kept.crash left may)
 
-  still_synced : (old new : D) → KeepsFile file leaves old new → Only (file old) (leaves old) → Only (file new) (leaves new)
+  still_synced : (old new : D) → KeepsFile disk old new → Only (disk.content old) (disk.may_leave old) → Only (disk.content new) (disk.may_leave new)
   still_synced old new kept only = λ left may. left_as old new left kept only may ∙ sym kept.same_content
 
   -- a durable image of the words beside three closed files that were only read
-  words_are_made : (words : List ℕ) (files made : FourFiles D) → FilesAreClosed file files → image_of (file made.image_a) ≡ Open 0 words → Only (file made.image_a) (leaves made.image_a)
-      → KeepsFile file leaves files.image_b made.image_b → KeepsFile file leaves files.log_a made.log_a → KeepsFile file leaves files.log_b made.log_b
-      → HoldsWords file leaves files words made
+  words_are_made : (words : List ℕ) (files made : FourFiles D) → FilesAreClosed disk.content files → image_of (disk.content made.image_a) ≡ Open 0 words
+      → Only (disk.content made.image_a) (disk.may_leave made.image_a) → KeepsFile disk files.image_b made.image_b → KeepsFile disk files.log_a made.log_a → KeepsFile disk files.log_b made.log_b
+      → HoldsWords disk files words made
   words_are_made words files made closed image durable kept_b kept_la kept_lb = record {
     closed = closed;
     image = image;
@@ -124,7 +125,8 @@ module _ {D : Type 0} (file : D → List ℕ) (leaves : D → List ℕ → Type 
     image_b = kept_b;
     log_a = kept_la;
     log_b = kept_lb;
-    recovers = words_stand (file made.image_a) (file made.image_b) (file made.log_a) (file made.log_b) words image (ap image_of kept_b.same_content ∙ closed.image_b_closed)
+    recovers = words_stand (disk.content made.image_a) (disk.content made.image_b) (disk.content made.log_a) (disk.content made.log_b) words image
+        (ap image_of kept_b.same_content ∙ closed.image_b_closed)
         (subst (λ (l : List ℕ). IsSegment l ClosedSegment) (sym kept_la.same_content) closed.log_a_closed)
         (subst (λ (l : List ℕ). IsSegment l ClosedSegment) (sym kept_lb.same_content) closed.log_b_closed);
     sound = λ synced a b la lb left_a left_b left_la left_lb.
@@ -140,19 +142,19 @@ module _ {D : Type 0} (file : D → List ℕ) (leaves : D → List ℕ → Type 
   }
 
   -- the same over the first of four files that were read before
-  pub words_made : (files read : FourFiles D) (image : D) (words : List ℕ) → FilesAreClosed file files → EachFile files read (KeepsFile file leaves)
-      → image_of (file image) ≡ Open 0 words → Only (file image) (leaves image)
-      → HoldsWords file leaves files words (record { image_a = image; image_b = read.image_b; log_a = read.log_a; log_b = read.log_b })
+  pub words_made : (files read : FourFiles D) (image : D) (words : List ℕ) → FilesAreClosed disk.content files → EachFile files read (KeepsFile disk)
+      → image_of (disk.content image) ≡ Open 0 words → Only (disk.content image) (disk.may_leave image)
+      → HoldsWords disk files words (record { image_a = image; image_b = read.image_b; log_a = read.log_a; log_b = read.log_b })
   words_made files read image words closed kept is only =
       words_are_made words files (record { image_a = image; image_b = read.image_b; log_a = read.log_a; log_b = read.log_b }) closed is only kept.image_b kept.log_a kept.log_b
 
-  kept_on : {old mid new : D} → KeepsFile file leaves old mid → KeepsFile file leaves mid new → KeepsFile file leaves old new
+  kept_on : {old mid new : D} → KeepsFile disk old mid → KeepsFile disk mid new → KeepsFile disk old new
   kept_on first second = record {
     same_content = second.same_content ∙ first.same_content;
     crash = λ outcome may. first.crash outcome (second.crash outcome may);
   }
 
-  closed_on : (files read : FourFiles D) → EachFile files read (KeepsFile file leaves) → FilesAreClosed file files → FilesAreClosed file read
+  closed_on : (files read : FourFiles D) → EachFile files read (KeepsFile disk) → FilesAreClosed disk.content files → FilesAreClosed disk.content read
   closed_on files read kept closed = record {
     image_a_closed = ap image_of kept.image_a.same_content ∙ closed.image_a_closed;
     image_b_closed = ap image_of kept.image_b.same_content ∙ closed.image_b_closed;
@@ -160,7 +162,7 @@ module _ {D : Type 0} (file : D → List ℕ) (leaves : D → List ℕ → Type 
     log_b_closed = subst (λ (l : List ℕ). IsSegment l ClosedSegment) (sym kept.log_b.same_content) closed.log_b_closed;
   }
 
-  synced_on : (files read : FourFiles D) → EachFile files read (KeepsFile file leaves) → AreSynced file leaves files → AreSynced file leaves read
+  synced_on : (files read : FourFiles D) → EachFile files read (KeepsFile disk) → AreSynced disk files → AreSynced disk read
   synced_on files read kept synced = record {
     image_a = still_synced files.image_a read.image_a kept.image_a synced.image_a;
     image_b = still_synced files.image_b read.image_b kept.image_b synced.image_b;
@@ -169,8 +171,8 @@ module _ {D : Type 0} (file : D → List ℕ) (leaves : D → List ℕ → Type 
   }
 
   -- a crash leaves closed files of synced ones that were only read
-  left_closed : (files read : FourFiles D) (a b la lb : List ℕ) → EachFile files read (KeepsFile file leaves) → AreSynced file leaves files → FilesAreClosed file files
-      → leaves read.image_a a → leaves read.image_b b → leaves read.log_a la → leaves read.log_b lb → AreClosed a b la lb
+  left_closed : (files read : FourFiles D) (a b la lb : List ℕ) → EachFile files read (KeepsFile disk) → AreSynced disk files → FilesAreClosed disk.content files
+      → disk.may_leave read.image_a a → disk.may_leave read.image_b b → disk.may_leave read.log_a la → disk.may_leave read.log_b lb → AreClosed a b la lb
   left_closed files read a b la lb kept synced closed left_a left_b left_la left_lb = record {
     image_a_closed = ap image_of (left_as files.image_a read.image_a a kept.image_a synced.image_a left_a) ∙ closed.image_a_closed;
     image_b_closed = ap image_of (left_as files.image_b read.image_b b kept.image_b synced.image_b left_b) ∙ closed.image_b_closed;
@@ -178,8 +180,8 @@ module _ {D : Type 0} (file : D → List ℕ) (leaves : D → List ℕ → Type 
     log_b_closed = subst (λ (l : List ℕ). IsSegment l ClosedSegment) (sym (left_as files.log_b read.log_b lb kept.log_b synced.log_b left_lb)) closed.log_b_closed;
   }
 
-  still_fresh : (files read : FourFiles D) (words : List ℕ) → EachFile files read (KeepsFile file leaves) → AreSynced file leaves files → FilesAreClosed file files
-      → IsFresh (leaves read.image_a) (leaves read.image_b) (leaves read.log_a) (leaves read.log_b) words
+  still_fresh : (files read : FourFiles D) (words : List ℕ) → EachFile files read (KeepsFile disk) → AreSynced disk files → FilesAreClosed disk.content files
+      → IsFresh (disk.may_leave read.image_a) (disk.may_leave read.image_b) (disk.may_leave read.log_a) (disk.may_leave read.log_b) words
   still_fresh files read words kept synced closed a b la lb left_a left_b left_la left_lb =
       let left = left_closed files read a b la lb kept synced closed left_a left_b left_la left_lb in
       record {
@@ -196,16 +198,16 @@ module _ {D : Type 0} (file : D → List ℕ) (leaves : D → List ℕ → Type 
       }
 
   -- no world is made of files that were only read
-  pub read_unmade : (folder : List ℕ) (files read : FourFiles D) (cells : ℕ) (ending : Ending) → ReportsUnmade file folder files ending
-      → EachFile files read (KeepsFile file leaves) → IsUnmade file leaves folder files cells ending read
+  pub read_unmade : (folder : List ℕ) (files read : FourFiles D) (cells : ℕ) (ending : Ending) → ReportsUnmade disk.content folder files ending
+      → EachFile files read (KeepsFile disk) → IsUnmade disk folder files cells ending read
   read_unmade folder files read cells ending reported kept = record {
     reported = reported;
     kept = λ other. kept;
     safe = λ synced closed. inl (still_fresh files read (replicate cells 0) kept synced closed);
   }
 
-  pub read_no_other : (folder words : List ℕ) (files read : FourFiles D) (ending : Ending) → ReportsUnmade file folder files ending
-      → EachFile files read (KeepsFile file leaves) → HoldsNoOther file leaves folder files words ending read
+  pub read_no_other : (folder words : List ℕ) (files read : FourFiles D) (ending : Ending) → ReportsUnmade disk.content folder files ending
+      → EachFile files read (KeepsFile disk) → HoldsNoOther disk folder files words ending read
   read_no_other folder words files read ending reported kept = record {
     reported = reported;
     kept = λ other. kept;
@@ -215,8 +217,7 @@ module _ {D : Type 0} (file : D → List ℕ) (leaves : D → List ℕ → Type 
   }
 
   -- a world is made of closed files that were read before, or none
-  pub zeros_made : (files read made : FourFiles D) (cells : ℕ) → FilesAreClosed file files → EachFile files read (KeepsFile file leaves)
-      → AreMade file leaves read cells made → AreMade file leaves files cells made
+  pub zeros_made : (files read made : FourFiles D) (cells : ℕ) → FilesAreClosed disk.content files → EachFile files read (KeepsFile disk) → AreMade disk read cells made → AreMade disk files cells made
   zeros_made files read made cells closed kept is = record {
     closed = closed;
     sound = λ synced. is.sound (synced_on files read kept synced);
@@ -224,9 +225,8 @@ module _ {D : Type 0} (file : D → List ℕ) (leaves : D → List ℕ → Type 
     log = is.log;
   }
 
-  pub zeros_unmade : (folder : List ℕ) (files read left : FourFiles D) (cells : ℕ) (refusal : Refusal) → FilesAreClosed file files → EachFile files read (KeepsFile file leaves)
-      → (refusal ≡ NotEmpty) ⊎ ((refusal ≡ NoMemory) ⊎ (refusal ≡ Device)) → AreNotMade file leaves read cells refusal left
-      → IsUnmade file leaves folder files cells (Fault refusal) left
+  pub zeros_unmade : (folder : List ℕ) (files read left : FourFiles D) (cells : ℕ) (refusal : Refusal) → FilesAreClosed disk.content files → EachFile files read (KeepsFile disk)
+      → (refusal ≡ NotEmpty) ⊎ ((refusal ≡ NoMemory) ⊎ (refusal ≡ Device)) → AreNotMade disk read cells refusal left → IsUnmade disk folder files cells (Fault refusal) left
   zeros_unmade folder files read left cells refusal closed kept why none = record {
     reported = ⊎_elim (λ not_empty. absurd (none.not_empty not_empty (closed_on files read kept closed))) (λ other. other) why;
     kept = λ other. (
@@ -241,20 +241,19 @@ module _ {D : Type 0} (file : D → List ℕ) (leaves : D → List ℕ → Type 
 
   -- no image is known to be written over the first of four closed files, which were read before
   pub unwritten : (folder words : List ℕ) (files read : FourFiles D) (image : D) (refusal : Refusal)
-      → FilesAreClosed file files → EachFile files read (KeepsFile file leaves)
-      → (refusal ≡ NoMemory) ⊎ (refusal ≡ Device) → (refusal ≡ NoMemory → image ≡ read.image_a)
-      → (Only (file read.image_a) (leaves read.image_a) → (left : List ℕ) → leaves image left → (image_of left ≡ Closed) ⊎ (image_of left ≡ Open 0 words))
-      → HoldsNoOther file leaves folder files words (Fault refusal) (record { image_a = image; image_b = read.image_b; log_a = read.log_a; log_b = read.log_b })
+      → FilesAreClosed disk.content files → EachFile files read (KeepsFile disk) → (refusal ≡ NoMemory) ⊎ (refusal ≡ Device) → (refusal ≡ NoMemory → image ≡ read.image_a)
+      → (Only (disk.content read.image_a) (disk.may_leave read.image_a) → (left : List ℕ) → disk.may_leave image left → (image_of left ≡ Closed) ⊎ (image_of left ≡ Open 0 words))
+      → HoldsNoOther disk folder files words (Fault refusal) (record { image_a = image; image_b = read.image_b; log_a = read.log_a; log_b = read.log_b })
   unwritten folder words files read image refusal closed kept why memory leaves_so = record {
     reported = why;
     kept = λ other. record {
-      image_a = subst (λ (disk : D). KeepsFile file leaves files.image_a disk) (sym (memory (⊎_elim (λ none. none) (λ device. absurd (other (ap Fault device))) why))) kept.image_a;
+      image_a = subst (λ (it : D). KeepsFile disk files.image_a it) (sym (memory (⊎_elim (λ none. none) (λ device. absurd (other (ap Fault device))) why))) kept.image_a;
       image_b = kept.image_b;
       log_a = kept.log_a;
       log_b = kept.log_b;
     };
     safe = λ synced _ a b la lb left_a left_b left_la left_lb.
-        let only : Only (file read.image_a) (leaves read.image_a) = (λ bytes left. synced.image_a bytes (kept.image_a.crash bytes left) ∙ sym kept.image_a.same_content) in
+        let only : Only (disk.content read.image_a) (disk.may_leave read.image_a) = (λ bytes left. synced.image_a bytes (kept.image_a.crash bytes left) ∙ sym kept.image_a.same_content) in
         let b_closed : image_of b ≡ Closed = ap image_of (synced.image_b b (kept.image_b.crash b left_b)) ∙ closed.image_b_closed in
         let la_closed : IsSegment la ClosedSegment = subst (λ (l : List ℕ). IsSegment l ClosedSegment) (sym (synced.log_a la (kept.log_a.crash la left_la))) closed.log_a_closed in
         let lb_closed : IsSegment lb ClosedSegment = subst (λ (l : List ℕ). IsSegment l ClosedSegment) (sym (synced.log_b lb (kept.log_b.crash lb left_lb))) closed.log_b_closed in
@@ -263,7 +262,7 @@ module _ {D : Type 0} (file : D → List ℕ) (leaves : D → List ℕ → Type 
         (λ is. inr (words_stand a b la lb words is b_closed la_closed lb_closed))
         (leaves_so only a left_a);
     fresh = λ synced _ a b la lb left_a left_b left_la left_lb.
-        let only : Only (file read.image_a) (leaves read.image_a) = still_synced files.image_a read.image_a kept.image_a synced.image_a in
+        let only : Only (disk.content read.image_a) (disk.may_leave read.image_a) = still_synced files.image_a read.image_a kept.image_a synced.image_a in
         let b_closed : image_of b ≡ Closed = ap image_of (left_as files.image_b read.image_b b kept.image_b synced.image_b left_b) ∙ closed.image_b_closed in
         record {
           a = ClosedSegment;

@@ -6,12 +6,13 @@ use Rattle.std.specs.Path.{path_buf_bytes, path_join}
 use Rattle.world_actions.specs.declared.refusal.Refusal.TheVariants.{NoMemory, Device, NotEmpty}
 use Rattle.file_format.specs.Gate.{HasOpenGate}
 use Rattle.disk_model.specs.Disk.{Only}
+use Rattle.disk_model.specs.declared.disk.Disk.{Ghosts}
 use Rattle.disk_model.specs.FourFiles.{EachFile, KeepsFile, mapped}
 use Rattle.world_start.specs.Opening.{AreSynced}
 use Rattle.disk_model.specs.declared.four_files.FourFiles.{FourFiles}
 use Rattle.world_folder.specs.declared.ending.Ending.{Ending}
 use Rattle.world_folder.specs.declared.ending.Ending.TheVariants.{Fault, Occupied}
-use Rattle.world_folder.specs.declared.look.TheConstants.{IMAGE_HEAD, SEGMENT_HEAD}
+use Rattle.world_folder.specs.declared.heads.TheConstants.{IMAGE_HEAD, SEGMENT_HEAD}
 use Rattle.world_folder.specs.declared.entry.Entry.{Entry}
 use Rattle.world_folder.specs.declared.entry.Identity.{Identity}
 use Rattle.world_folder.specs.History.{Act, Made, with_lock, synced}
@@ -66,11 +67,10 @@ module _ {D : Type 0} (file : D → List ℕ) where
   ReportsOpen folder present other = ⊥
 
 -- a file that is there is only read; none appears
-abbrev pub KeepsThere : {S : Type 0} → (S → List ℕ) → (S → List ℕ → Type 0)
-    → Option S → Option S → Type 0
-KeepsThere content may_leave None new = new ≡ None
-KeepsThere content may_leave (Some old) None = ⊥
-KeepsThere content may_leave (Some old) (Some new) = KeepsFile content may_leave old new
+abbrev pub KeepsThere : {D : Type 0} → Ghosts D → Option D → Option D → Type 0
+KeepsThere disk None new = new ≡ None
+KeepsThere disk (Some old) None = ⊥
+KeepsThere disk (Some old) (Some new) = KeepsFile disk old new
 
 -- ---- the history of a folder
 
@@ -80,21 +80,21 @@ pub record AreFound {D : Type 0} (identity : D → Identity) (files : FourFiles 
   pub looked_for : AreLookedFor identity files before after
   pub apart : AreApart (mapped (option_map identity) files)
 
-module _ {D : Type 0} (content : D → List ℕ) (leaves : D → List ℕ → Type 0) where
+module _ {D : Type 0} (disk : Ghosts D) where
   -- nothing of a file that is there is unsynced
   abbrev pub IsSyncedIfThere : Option D → Type 0
   IsSyncedIfThere None = Unit {0}
-  IsSyncedIfThere (Some disk) = Only (content disk) (leaves disk)
+  IsSyncedIfThere (Some it) = Only (disk.content it) (disk.may_leave it)
 
   abbrev pub EachSynced : FourFiles (Option D) → Type 0
   EachSynced files = EachFile files files (λ file _. IsSyncedIfThere file)
 
   -- the file that was there, or a new and empty one, which is synced
   abbrev pub IsReady : (file : WorldFile) → Option D → D → (before after : List Act) → Type 0
-  IsReady file (Some there) disk before after = (disk ≡ there) × (after ≡ before)
-  IsReady file None disk before after =
+  IsReady file (Some there) ready before after = (ready ≡ there) × (after ≡ before)
+  IsReady file None ready before after =
       (entry : Entry) × (after ≡ with_lock file entry (Made file entry ∷ before))
-      × (content disk ≡ []) × Only (content disk) (leaves disk)
+      × (disk.content ready ≡ []) × Only (disk.content ready) (disk.may_leave ready)
 
   -- each file of four is the one that was there, or was made under its own name
   pub record AreReady (there : FourFiles (Option D)) (files : FourFiles D)
@@ -111,7 +111,7 @@ module _ {D : Type 0} (content : D → List ℕ) (leaves : D → List ℕ → Ty
   pub record AreCompleted (there : FourFiles (Option D)) (files : FourFiles D)
       (before after : List Act) : Type 0 where
     pub read : FourFiles (Option D)
-    pub kept : EachFile there read (KeepsThere content leaves)
+    pub kept : EachFile there read (KeepsThere disk)
     pub ready : AreReady read files before after
 
   -- The four files of a folder in which a world is made, as it found or made them, and the names
@@ -122,7 +122,7 @@ module _ {D : Type 0} (content : D → List ℕ) (leaves : D → List ℕ → Ty
     pub looked : List Act
     pub made : List Act
     pub found : AreFound identity there before looked
-    pub none_open : NoneIsOpen content there
+    pub none_open : NoneIsOpen disk.content there
     pub completed : AreCompleted there files looked made
     pub named : after ≡ synced made
-    pub synced_files : AreSynced content leaves files
+    pub synced_files : AreSynced disk files

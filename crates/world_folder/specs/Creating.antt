@@ -1,5 +1,6 @@
 -- A world that was made in a folder.
 use Rattle.std.specs.Prelude.{◌≡◌, ℕ, List, [], ◌∷◌, length, replicate, Option, Bool}
+use Rattle.disk_model.specs.declared.disk.Disk.{Ghosts}
 use Rattle.disk_model.specs.FourFiles.{EachFile}
 use Rattle.disk_model.specs.declared.four_files.FourFiles.{FourFiles}
 use Rattle.world_actions.specs.declared.refusal.Refusal.TheVariants.{NoMemory}
@@ -15,23 +16,22 @@ use Rattle.world_folder.specs.declared.ending.Ending.{Ending}
 use Rattle.world_folder.specs.declared.ending.Ending.TheVariants.{Fault, Unreadable, Unfinished}
 use Rattle.world_folder.specs.declared.unfinished.Why.TheVariants as why
 
-module _ {D : Type 0} (identity : D → Identity) (content : D → List ℕ)
-    (leaves : D → List ℕ → Type 0) where
+module _ {D : Type 0} (identity : D → Identity) (disk : Ghosts D) where
   -- A world of zeros was made of the four files of a folder. It is sound at tick 0, and durable.
   pub record AreZeros (cells : ℕ) (made : FourFiles D) (before after : List Act) : Type 0 where
     pub files : FourFiles D
-    pub taken : AreTaken content leaves identity files before after
-    pub made_of : AreMade content leaves files cells made
-    pub sound : AreSound content leaves made (replicate cells 0) [] 0
-    pub durable : AreSynced content leaves made
+    pub taken : AreTaken disk identity files before after
+    pub made_of : AreMade disk files cells made
+    pub sound : AreSound disk made (replicate cells 0) [] 0
+    pub durable : AreSynced disk made
 
-  -- the same of a world of these words
+  -- A world of these words was made of the four files of a folder. It is sound at tick 0, durable.
   pub record AreWords (words : List ℕ) (made : FourFiles D) (before after : List Act) : Type 0 where
     pub files : FourFiles D
-    pub taken : AreTaken content leaves identity files before after
-    pub made_of : HoldsWords content leaves files words made
-    pub sound : AreSound content leaves made words [] 0
-    pub durable : AreSynced content leaves made
+    pub taken : AreTaken disk identity files before after
+    pub made_of : HoldsWords disk files words made
+    pub sound : AreSound disk made words [] 0
+    pub durable : AreSynced disk made
 
   -- a world of zeros was made, and then its number of cells was printed
   pub record IsCreated (cells : ℕ) (made : FourFiles D) (before after : List Act) : Type 0 where
@@ -52,11 +52,11 @@ module _ {D : Type 0} (identity : D → Identity) (content : D → List ℕ)
     pub there : FourFiles (Option D)
     pub left : FourFiles (Option D)
     pub found : AreFound identity there before after
-    pub reported : ReportsOpen content folder there ending
-    pub kept : EachFile there left (KeepsThere content leaves)
+    pub reported : ReportsOpen disk.content folder there ending
+    pub kept : EachFile there left (KeepsThere disk)
 
 -- the ending of a command that made these files: it names them, if a file failed or
--- memory was wanting
+-- memory ran out
 abbrev pub IsUnfinished : FourFiles Bool → Ending → Ending → Type 0
 IsUnfinished made (Unreadable file) result =
     result ≡ Unfinished (record { made = made; why = why.File file })

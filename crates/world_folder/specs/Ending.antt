@@ -130,7 +130,7 @@ IsDone Ran = Unit {0}
 IsDone MayBeOlder = Unit {0}
 IsDone other = ⊥
 
--- the same of a command that also checks if the world is well
+-- the command did its work, or it found that the world isn't well
 abbrev pub IsChecked : Ending → Type 0
 IsChecked (ending.Unwell why) = Unit {0}
 IsChecked other = IsDone other

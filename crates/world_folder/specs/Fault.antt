@@ -10,9 +10,9 @@ use Rattle.recovery.specs.declared.recovered.Recovered.{Recovered}
 use Rattle.recovery.specs.Recovered.{recovery_of_answer}
 use Rattle.disk_model.specs.declared.four_files.FourFiles.{FourFiles}
 use Rattle.disk_model.specs.FourFiles.{EachFile}
-use Rattle.world_folder.specs.declared.fault.Fault.{Fault}
-use Rattle.world_folder.specs.declared.fault.Fault.TheVariants.{NoMemory, NoImage, Images, Segments}
-use Rattle.world_folder.specs.declared.fault.Fault.TheVariants.{Replay, Lost}
+use Rattle.world_folder.specs.declared.fault.WorldFault.{WorldFault}
+use Rattle.world_folder.specs.declared.fault.WorldFault.TheVariants.{NoMemory, NoImage, Images}
+use Rattle.world_folder.specs.declared.fault.WorldFault.TheVariants.{Segments, Replay, Lost}
 use Rattle.world_folder.specs.declared.lost.Lost.TheVariants.{Image, Log, Gap, Older}
 use Rattle.world_folder.specs.declared.lost.Lost.TheVariants.{ChangedImage, ChangedLog}
 use Rattle.world_folder.specs.Lost.{judgement, IsRefusing}
@@ -34,7 +34,7 @@ Stands files found =
     (Ok (recovery_of_answer found))
 
 -- what recovery answers
-abbrev pub refusal_of : Fault → Refusal
+abbrev pub refusal_of : WorldFault → Refusal
 refusal_of NoMemory = refusal.NoMemory
 refusal_of NoImage = refusal.NoImage
 refusal_of (Images damaged) = refusal.BadImage
@@ -60,7 +60,7 @@ IsRefused files refused =
     files.log_b.items (Err refused)
 
 -- A fault is true of the four files by these checks. NoMemory says nothing of them.
-abbrev pub Explains : Checks → Files → Fault → Type 0
+abbrev pub Explains : Checks → Files → WorldFault → Type 0
 Explains checks files NoMemory = Unit {0}
 Explains checks files NoImage = IsRefused files refusal.NoImage
 Explains checks files (Images damaged) =

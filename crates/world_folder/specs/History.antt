@@ -64,7 +64,7 @@ abbrev pub IsPrinted : Option (List ℕ) → (before after : List Act) → Type 
 IsPrinted (Some text) before after = after ≡ Printed text ∷ before
 IsPrinted None before after = (text : List ℕ) × (after ≡ Printed text ∷ before)
 
--- the same of standard error
+-- a line was printed on standard error: the one whose text is stated, if it is
 abbrev pub IsWarned : Option (List ℕ) → (before after : List Act) → Type 0
 IsWarned (Some text) before after = after ≡ Warned text ∷ before
 IsWarned None before after = (text : List ℕ) × (after ≡ Warned text ∷ before)

@@ -10,7 +10,7 @@ pub mod ReadIn
 pub mod Ending
 pub mod Making
 pub mod WordsText
-pub mod Look
+pub mod Heads
 pub mod Forward
 pub mod Texts
 pub mod Creating

@@ -12,7 +12,7 @@ use Rattle.file_format.specs.declared.format.Format.TheVariants.{First, Second}
 use Rattle.file_format.specs.Format.{marked_in}
 use Rattle.disk_model.specs.declared.four_files.FourFiles.{FourFiles}
 use Rattle.world_folder.specs.declared.guard.Guard.{Guard}
-use Rattle.world_folder.specs.declared.look.TheConstants.{IMAGE_HEAD, SEGMENT_HEAD}
+use Rattle.world_folder.specs.declared.heads.TheConstants.{IMAGE_HEAD, SEGMENT_HEAD}
 use Rattle.world_folder.specs.declared.lost.TheConstants.{GROUP_PLACE}
 use Rattle.world_folder.specs.declared.lost.Checks.{Checks}
 use Rattle.world_folder.specs.declared.lost.Lost.{Lost}

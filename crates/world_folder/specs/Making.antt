@@ -4,6 +4,7 @@ use Rattle.std.specs.Path.{path_buf_bytes, path_join}
 use Rattle.world_actions.specs.declared.refusal.Refusal.TheVariants.{NoMemory, Device}
 use Rattle.world_actions.specs.declared.refusal.Refusal.TheVariants.{NoImage}
 use Rattle.file_format.specs.declared.slot.Slot.TheVariants.{A}
+use Rattle.disk_model.specs.declared.disk.Disk.{Ghosts}
 use Rattle.disk_model.specs.Disk.{Call, Only}
 use Rattle.disk_model.specs.FourFiles.{EachFile, KeepsFile}
 use Rattle.disk_model.specs.declared.four_files.FourFiles.{FourFiles}
@@ -42,16 +43,16 @@ module _ {D : Type 0} (file : D → List ℕ) where
   ReportsUnmade folder files (Fault refusal) = (refusal ≡ NoMemory) ⊎ (refusal ≡ Device)
   ReportsUnmade folder files other = ⊥
 
-module _ {D : Type 0} (file : D → List ℕ) (leaves : D → List ℕ → Type 0) where
+module _ {D : Type 0} (disk : Ghosts D) where
   -- No world was made, and the program ends so. The files were only read, except if a device
   -- failed. If they held no world, whatever a crash leaves of them is of no world yet, or of one of
   -- zeros at tick 0.
   pub record IsUnmade (folder : List ℕ) (files : FourFiles D) (cells : ℕ) (ending : Ending)
       (left : FourFiles D) : Type 0 where
-    pub reported : ReportsUnmade file folder files ending
-    pub kept : ending ≢ Fault Device → EachFile files left (KeepsFile file leaves)
-    pub safe : AreSynced file leaves files → FilesAreClosed file files
-        → AreFreshOrSound file leaves left (replicate cells 0)
+    pub reported : ReportsUnmade disk.content folder files ending
+    pub kept : ending ≢ Fault Device → EachFile files left (KeepsFile disk)
+    pub safe : AreSynced disk files → FilesAreClosed disk.content files
+        → AreFreshOrSound disk left (replicate cells 0)
 
 -- the files beside image.a are asked for no byte after the greatest length of their format, and
 -- for nothing else
@@ -65,32 +66,32 @@ pub record OthersOnlyAsked {D : Type 0} (called : D → Call → Bool → D → 
 abbrev pub recovery_of_words : List ℕ → Recovery
 recovery_of_words words = record { tick = 0; from = 0; slot = A; words = words }
 
-module _ {D : Type 0} (file : D → List ℕ) (leaves : D → List ℕ → Type 0) where
+module _ {D : Type 0} (disk : Ghosts D) where
   -- The files held no world, and recovery finds these words in them at tick 0. image.a has them,
   -- and is durable. The other files were only read. If the files were synced, they are sound from
   -- these words, and synced again.
   pub record HoldsWords (files : FourFiles D) (words : List ℕ) (made : FourFiles D) : Type 0 where
-    pub closed : FilesAreClosed file files
-    pub image : image_of (file made.image_a) ≡ Open 0 words
-    pub durable : Only (file made.image_a) (leaves made.image_a)
-    pub image_b : KeepsFile file leaves files.image_b made.image_b
-    pub log_a : KeepsFile file leaves files.log_a made.log_a
-    pub log_b : KeepsFile file leaves files.log_b made.log_b
-    pub recovers : RecoversFiles file made (recovery_of_words words)
-    pub sound : AreSynced file leaves files → AreSound file leaves made words [] 0
-    pub synced : AreSynced file leaves files → AreSynced file leaves made
+    pub closed : FilesAreClosed disk.content files
+    pub image : image_of (disk.content made.image_a) ≡ Open 0 words
+    pub durable : Only (disk.content made.image_a) (disk.may_leave made.image_a)
+    pub image_b : KeepsFile disk files.image_b made.image_b
+    pub log_a : KeepsFile disk files.log_a made.log_a
+    pub log_b : KeepsFile disk files.log_b made.log_b
+    pub recovers : RecoversFiles disk.content made (recovery_of_words words)
+    pub sound : AreSynced disk files → AreSound disk made words [] 0
+    pub synced : AreSynced disk files → AreSynced disk made
 
   -- No world was made, and the program ends so. The files were only read, except if a device
   -- failed. If they held no world, a crash leaves none in them, or that of these words at tick 0.
   -- So they are those of a fresh world of these words.
   pub record HoldsNoOther (folder : List ℕ) (files : FourFiles D) (words : List ℕ) (ending : Ending)
       (left : FourFiles D) : Type 0 where
-    pub reported : ReportsUnmade file folder files ending
-    pub kept : ending ≢ Fault Device → EachFile files left (KeepsFile file leaves)
-    pub safe : AreSynced file leaves files → FilesAreClosed file files
-        → (a b la lb : List ℕ) → leaves left.image_a a → leaves left.image_b b
-        → leaves left.log_a la → leaves left.log_b lb
+    pub reported : ReportsUnmade disk.content folder files ending
+    pub kept : ending ≢ Fault Device → EachFile files left (KeepsFile disk)
+    pub safe : AreSynced disk files → FilesAreClosed disk.content files
+        → (a b la lb : List ℕ) → disk.may_leave left.image_a a → disk.may_leave left.image_b b
+        → disk.may_leave left.log_a la → disk.may_leave left.log_b lb
         → Recovers a b la lb (Err NoImage) ⊎ Recovers a b la lb (Ok (recovery_of_words words))
-    pub fresh : AreSynced file leaves files → FilesAreClosed file files
-        → IsFresh (leaves left.image_a) (leaves left.image_b) (leaves left.log_a)
-        (leaves left.log_b) words
+    pub fresh : AreSynced disk files → FilesAreClosed disk.content files
+        → IsFresh (disk.may_leave left.image_a) (disk.may_leave left.image_b)
+        (disk.may_leave left.log_a) (disk.may_leave left.log_b) words

@@ -44,7 +44,7 @@ IsOwn file identity before after =
     (there : Entry) × IsOnlyFile file there identity (Looked file (Some there) ∷ before) after
 
 module _ {D : Type 0} (identity : D → Identity) where
-  -- the same of a file that may not be there
+  -- a file was looked for by its name, and then opened if it was there
   abbrev pub IsOwnIfThere : (file : WorldFile) → Option D → (before after : List Act) → Type 0
   IsOwnIfThere file None before after = after ≡ Looked file None ∷ before
   IsOwnIfThere file (Some disk) before after = IsOwn file (identity disk) before after

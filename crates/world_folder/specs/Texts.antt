@@ -7,8 +7,8 @@ use Rattle.world_actions.specs.Refusal.{code_of}
 use Rattle.file_format.specs.declared.slot.Slot.{Slot}
 use Rattle.file_format.specs.declared.slot.Slot.TheVariants.{A, B}
 use Rattle.world_folder.specs.declared.fault.Damaged.{Damaged}
-use Rattle.world_folder.specs.declared.fault.Fault.{Fault}
-use Rattle.world_folder.specs.declared.fault.Fault.TheVariants as fault
+use Rattle.world_folder.specs.declared.fault.WorldFault.{WorldFault}
+use Rattle.world_folder.specs.declared.fault.WorldFault.TheVariants as fault
 use Rattle.world_folder.specs.declared.guard.Older.{Older}
 use Rattle.world_folder.specs.declared.lost.Lost.{Lost}
 use Rattle.world_folder.specs.declared.lost.Lost.TheVariants as lost
@@ -68,7 +68,7 @@ lost_text (lost.ChangedLog slot) = log_name slot ++ codes " is closed as no cras
 lost_text (lost.Older older) = older_text older
 
 -- why four files hold no world, beside the refusal
-abbrev pub reason_text : Fault → List ℕ
+abbrev pub reason_text : WorldFault → List ℕ
 reason_text fault.NoMemory = []
 reason_text fault.NoImage = []
 reason_text (fault.Images damaged) = damaged_names damaged IMAGE_A.now IMAGE_B.now

@@ -1,14 +1,17 @@
 //! Recovery of a world, whose files are checked for a loss.
-ghost use Rattle.std.specs.Prelude.{◌≡◌, ◌≤◌, None, take, IsTrue, IfOk, IfErr, IfSome};
+ghost use Rattle.std.specs.Prelude.{◌≡◌, ◌≤◌, ◌∷◌, None, take, IsTrue, IfOk, IfErr, IfSome};
 ghost use Rattle.std.specs.Prelude.{MatchResult};
 ghost use Rattle.disk_model.specs.FourFiles.{EachFile, KeepsFile};
 ghost use Rattle.world_start.specs.Opening.{IsRead};
 ghost use Rattle.world_start.specs.Steps.{IsAhead};
+ghost use Rattle.world_folder.specs.Ending.{IsFault};
+ghost use Rattle.world_folder.specs.History.{GuardRead};
 ghost use Rattle.world_folder.specs.Lost.{JudgedIn, lost_in};
-ghost use Rattle.world_folder.specs.declared.lost.OnLoss.{OnLoss};
 ghost use Rattle.world_folder.specs.Unrecovered.{IsUnrecovered};
 
-use crate::lost::{Checks, Finding, Lost, judge, read_heads};
+use crate::ending::Ending;
+use crate::folders::Folder;
+use crate::lost::{Checks, Finding, Lost, OnLoss, judge, read_heads};
 use capture_core::Capture;
 use disk_model::{Disk, FourFiles};
 use std::alloc::Global;
@@ -41,11 +44,11 @@ pub fn recover_checked<C: Capture + Drop, D: Disk>(
     checks: Checks,
 ) -> Result<Checked<C, D>, (FourFiles<D>, NotRecovered)>
     ensures kept { IsTrue D.honest → MatchResult result
-        (λ found. EachFile files found.begun.engine.files (KeepsFile D.content D.may_leave))
-        (λ refused. EachFile files refused.0 (KeepsFile D.content D.may_leave)) }
+        (λ found. EachFile files found.begun.engine.files (KeepsFile D.Disk))
+        (λ refused. EachFile files refused.0 (KeepsFile D.Disk)) }
     ensures ahead { IfOk result (λ found. IsAhead found.begun.engine found.begun.words.items) }
     ensures read { IsTrue D.honest → IfOk result (λ found.
-        IsRead D.content D.may_leave files found.begun.engine found.begun.from) }
+        IsRead D.Disk files found.begun.engine found.begun.from) }
     ensures judged { IsTrue D.honest → IfOk result (λ found.
         JudgedIn D.content checks found.begun.engine.ended found.begun.from
         files found.finding) }
@@ -55,7 +58,7 @@ pub fn recover_checked<C: Capture + Drop, D: Disk>(
     ensures newest { checks.older ≡ OnLoss.Refuse → IfOk result (λ found.
         IfSome checks.guard (λ guard. guard.acked ≤ found.begun.engine.ended)) }
     ensures refused { IfErr result (λ refused.
-        IsUnrecovered D.content D.honest checks files refused.1) }
+        IsUnrecovered D.Disk checks files refused.1) }
 {
     let mut files = files;
     let heads = match read_heads(alloc, &mut files) {
@@ -69,4 +72,20 @@ pub fn recover_checked<C: Capture + Drop, D: Disk>(
         },
         Err((files, refusal)) => Err((files, NotRecovered::Refused(refusal))),
     }
+}
+
+/// The checks of a command that looks at the world in a folder, with its guard: a world that is
+/// older than it is named.
+pub fn checks_in<F: Folder>(folder: &mut F, on_loss: OnLoss) -> Result<Checks, Ending>
+    ensures read { IsTrue F.honest → IfOk result (λ checks.
+        F.history folder.new ≡ GuardRead checks.guard ∷ F.history folder.old) }
+    ensures named { IfOk result (λ checks.
+        (checks.lost ≡ on_loss) × (checks.older ≡ OnLoss.Warn)) }
+    ensures fault { IfErr result IsFault }
+    ensures path { F.path folder.new ≡ F.path folder.old }
+{
+    Ok(Checks {
+        guard: folder.read_guard()?,
+        ..Checks::of(on_loss)
+    })
 }

@@ -11,36 +11,33 @@ ghost use Rattle.world_folder.specs.Ending.{IsFault, NamesFile};
 
 use crate::ending::{Ending, Occupied};
 use crate::folders::Folder;
+use crate::heads::{IMAGE_HEAD, SEGMENT_HEAD};
 use crate::locks::WRITTEN;
-use crate::look::{IMAGE_HEAD, SEGMENT_HEAD};
-use crate::opening::{opened, path_of};
 use crate::own_file::take_own;
 use disk_model::{Disk, FourFiles, IMAGE_A, IMAGE_B, LOG_A, LOG_B, WorldFile};
 use file_format::OPEN_GATE;
-use std::alloc::Global;
 use std::io::{self, ErrorKind};
 use world_actions::Refusal;
 
 // Looks at the files of a folder that are there. If one is open, no world is made there, and the
 // first such file is named. An open file may hold an image or ticks, whatever the others are.
-fn look_for_world<D: Disk>(
-    alloc: Global,
-    folder: &str,
-    present: &mut FourFiles<Option<D>>,
+fn look_for_world<F: Folder>(
+    folder: &F,
+    present: &mut FourFiles<Option<F::File>>,
 ) -> Result<(), Ending>
-    ensures none { IsTrue D.honest → OnOk result (NoneIsOpen D.content present.old) }
-    ensures reported { IsTrue D.honest
-        → IfErr result (ReportsOpen D.content folder.now present.old) }
-    ensures kept { IsTrue D.honest
-        → EachFile present.old present.new (KeepsThere D.content D.may_leave) }
+    ensures none { IsTrue F.File.honest → OnOk result (NoneIsOpen F.File.content present.old) }
+    ensures reported { IsTrue F.File.honest
+        → IfErr result (ReportsOpen F.File.content (F.path folder.now) present.old) }
+    ensures kept { IsTrue F.File.honest
+        → EachFile present.old present.new (KeepsThere F.File.Disk) }
     ensures fault { IfErr result IsFault }
 {
     match first_open(present) {
         Ok(None) => Ok(()),
-        Ok(Some(name)) => match path_of(alloc, folder, name) {
-            Ok(path) => Err(Ending::Occupied(Occupied { path })),
-            Err(_) => Err(Ending::Fault(Refusal::NoMemory)),
-        },
+        Ok(Some(name)) => {
+            let path = folder.path_of(name)?;
+            Err(Ending::Occupied(Occupied { path }))
+        }
         Err(refusal) => Err(Ending::Fault(refusal)),
     }
 }
@@ -52,7 +49,7 @@ fn first_open<D: Disk>(present: &mut FourFiles<Option<D>>) -> Result<Option<&'st
     ensures first { IsTrue D.honest → IfOk result (λ found.
         IfSome found (λ name. IsFirstThere D.content present.old name.now)) }
     ensures kept { IsTrue D.honest
-        → EachFile present.old present.new (KeepsThere D.content D.may_leave) }
+        → EachFile present.old present.new (KeepsThere D.Disk) }
     ensures device { IfErr result (λ refusal. refusal ≡ Refusal.Device) }
 {
     if is_open(&mut present.image_a, IMAGE_HEAD)? {
@@ -74,7 +71,7 @@ fn is_open<D: Disk>(file: &mut Option<D>, header: usize) -> Result<bool, Refusal
     requires { 1 ≤ header }
     ensures open { IsTrue D.honest
         → IfOk result (λ yes. IsTrue yes ↔ IsOpenThere D.content header file.old) }
-    ensures kept { IsTrue D.honest → KeepsThere D.content D.may_leave file.old file.new }
+    ensures kept { IsTrue D.honest → KeepsThere D.Disk file.old file.new }
     ensures device { IfErr result (λ refusal. refusal ≡ Refusal.Device) }
 {
     match file {
@@ -88,7 +85,7 @@ fn has_open_gate<D: Disk>(disk: &mut D, header: usize) -> Result<bool, Refusal>
     requires { 1 ≤ header }
     ensures open { IsTrue D.honest
         → IfOk result (λ yes. IsTrue yes ↔ IsOpenFile header (D.content disk.old)) }
-    ensures kept { IsTrue D.honest → KeepsFile D.content D.may_leave disk.old disk.new }
+    ensures kept { IsTrue D.honest → KeepsFile D.Disk disk.old disk.new }
     ensures device { IfErr result (λ refusal. refusal ≡ Refusal.Device) }
 {
     if disk.len()? < header as u64 {
@@ -101,65 +98,31 @@ fn has_open_gate<D: Disk>(disk: &mut D, header: usize) -> Result<bool, Refusal>
 
 // Makes the files of a folder that aren't there, and takes the others.
 fn make_absent<F: Folder>(
-    alloc: Global,
     folder: &mut F,
-    path: &str,
     present: &mut FourFiles<Option<F::File>>,
     made: &mut FourFiles<bool>,
 ) -> Result<FourFiles<F::File>, Ending>
     ensures ready { IsTrue F.honest → IsTrue F.File.honest → IfOk result (λ files.
-        AreReady F.File.content F.File.may_leave present.old files (F.history folder.old)
-        (F.history folder.new)) }
+        AreReady F.File.Disk present.old files (F.history folder.old) (F.history folder.new)) }
     ensures other { IfErr result (λ ending. ¬ IsOccupied ending) }
     ensures fault { IfErr result IsFault }
 {
     Ok(FourFiles {
-        image_a: there_or_made(
-            alloc,
-            folder,
-            path,
-            WorldFile::ImageA,
-            &mut present.image_a,
-            made,
-        )?,
-        image_b: there_or_made(
-            alloc,
-            folder,
-            path,
-            WorldFile::ImageB,
-            &mut present.image_b,
-            made,
-        )?,
-        log_a: there_or_made(
-            alloc,
-            folder,
-            path,
-            WorldFile::LogA,
-            &mut present.log_a,
-            made,
-        )?,
-        log_b: there_or_made(
-            alloc,
-            folder,
-            path,
-            WorldFile::LogB,
-            &mut present.log_b,
-            made,
-        )?,
+        image_a: there_or_made(folder, WorldFile::ImageA, &mut present.image_a, made)?,
+        image_b: there_or_made(folder, WorldFile::ImageB, &mut present.image_b, made)?,
+        log_a: there_or_made(folder, WorldFile::LogA, &mut present.log_a, made)?,
+        log_b: there_or_made(folder, WorldFile::LogB, &mut present.log_b, made)?,
     })
 }
 
 fn there_or_made<F: Folder>(
-    alloc: Global,
     folder: &mut F,
-    path: &str,
     file: WorldFile,
     present: &mut Option<F::File>,
     made: &mut FourFiles<bool>,
 ) -> Result<F::File, Ending>
     ensures ready { IsTrue F.honest → IsTrue F.File.honest → IfOk result (λ disk.
-        IsReady F.File.content F.File.may_leave file present.old disk (F.history folder.old)
-        (F.history folder.new)) }
+        IsReady F.File.Disk file present.old disk (F.history folder.old) (F.history folder.new)) }
     ensures there { IfSome present.old (λ disk. result ≡ Ok disk) }
     ensures none_made { IfSome present.old (λ _. made.new ≡ made.old) }
     ensures made { IfNone present.old (OnOk result (made.new ≡ with_value file true made.old)) }
@@ -168,31 +131,28 @@ fn there_or_made<F: Folder>(
 {
     match present.take() {
         Some(disk) => Ok(disk),
-        None => make_empty(alloc, folder, path, file, made),
+        None => make_empty(folder, file, made),
     }
 }
 
 // Makes an empty file that only its owner may read and write, and locks it if it is image.a.
 fn make_empty<F: Folder>(
-    alloc: Global,
     folder: &mut F,
-    path: &str,
     file: WorldFile,
     made: &mut FourFiles<bool>,
 ) -> Result<F::File, Ending>
     ensures acts { IsTrue F.honest → IsTrue F.File.honest → IfOk result (λ disk.
-        IsReady F.File.content F.File.may_leave file None disk (F.history folder.old)
-        (F.history folder.new)) }
+        IsReady F.File.Disk file None disk (F.history folder.old) (F.history folder.new)) }
     ensures made { OnOk result (made.new ≡ with_value file true made.old) }
     ensures other { IfErr result (λ ending. ¬ IsOccupied ending) }
-    ensures named { IfErr result (NamesFile path.now file) }
+    ensures named { IfErr result (NamesFile (F.path folder.old) file) }
     ensures fault { IfErr result IsFault }
 {
     let handle = made_alone(folder.make(file));
-    let handle = opened(alloc, path, file.name(), handle)?;
+    let handle = folder.blame(file.name(), handle)?;
     made.set(file, true);
     let disk = take_own(folder, file, handle);
-    opened(alloc, path, file.name(), disk)
+    folder.blame(file.name(), disk)
 }
 
 // Returns the answer to the making of a file that wasn't there before. If it is there now, another
@@ -213,25 +173,22 @@ fn made_alone<T>(answer: io::Result<T>) -> io::Result<T>
 /// The four files in which a world is to be made: those that are there, and new ones. If one that
 /// is there is open, no file is made, and none is changed.
 pub fn complete<F: Folder>(
-    alloc: Global,
     folder: &mut F,
-    path: &str,
     present: &mut FourFiles<Option<F::File>>,
     made: &mut FourFiles<bool>,
 ) -> Result<FourFiles<F::File>, Ending>
     ensures completed { IsTrue F.honest → IsTrue F.File.honest → IfOk result (λ files.
-        AreCompleted F.File.content F.File.may_leave present.old files (F.history folder.old)
-        (F.history folder.new)) }
+        AreCompleted F.File.Disk present.old files (F.history folder.old) (F.history folder.new)) }
     ensures none_made { IfErr result (λ ending. IsOccupied ending → made.new ≡ made.old) }
     ensures no_act { IfErr result (λ ending. IsOccupied ending → folder.new ≡ folder.old) }
     ensures none_open { IsTrue F.File.honest
         → IfOk result (λ _. NoneIsOpen F.File.content present.old) }
     ensures reported { IsTrue F.File.honest → IfErr result (λ ending. IsOccupied ending
-        → ReportsOpen F.File.content path.now present.old ending) }
+        → ReportsOpen F.File.content (F.path folder.old) present.old ending) }
     ensures kept { IsTrue F.File.honest → IfErr result (λ ending. IsOccupied ending
-        → EachFile present.old present.new (KeepsThere F.File.content F.File.may_leave)) }
+        → EachFile present.old present.new (KeepsThere F.File.Disk)) }
     ensures fault { IfErr result IsFault }
 {
-    look_for_world(alloc, path, present)?;
-    make_absent(alloc, folder, path, present, made)
+    look_for_world(folder, present)?;
+    make_absent(folder, present, made)
 }

@@ -4,7 +4,7 @@ ghost use Rattle.world_folder.specs.Completing.{IsOccupied};
 ghost use Rattle.world_folder.specs.Ending.{IsFault};
 ghost use Rattle.world_folder.specs.Texts.{filled_text, inside_text, unlisted_text};
 
-use crate::fault::Fault;
+use crate::fault::WorldFault;
 use crate::lost::{Finding, Lost};
 use crate::opening::Unreadable;
 use crate::system_error::{Reason, refusal_of};
@@ -32,7 +32,7 @@ pub enum Ending {
     /// This file can't be read.
     Unreadable(Unreadable),
     /// The files hold no world.
-    NoWorld(Fault),
+    NoWorld(WorldFault),
     /// A world can't be made over this file.
     Occupied(Occupied),
     /// A world wasn't made, and files of it may be.
@@ -157,7 +157,7 @@ impl fmt::Display for NoPort {
 
 /// A standard stream.
 #[derive(Clone, Copy, Debug, PartialEq, Eq)]
-pub enum Stream {
+pub enum StandardStream {
     Input,
     Output,
 }
@@ -165,15 +165,15 @@ pub enum Stream {
 /// A standard stream that failed, and why.
 #[derive(Clone, Copy, Debug)]
 pub struct StreamFailure {
-    pub stream: Stream,
+    pub stream: StandardStream,
     pub error: io::Error,
 }
 
 impl fmt::Display for StreamFailure {
     fn fmt<W: fmt::Write>(&self, f: &mut fmt::Formatter<W>) -> fmt::Result {
         match self.stream {
-            Stream::Input => write!(f, "standard input: {}", Reason(self.error)),
-            Stream::Output => write!(f, "standard output: {}", Reason(self.error)),
+            StandardStream::Input => write!(f, "standard input: {}", Reason(self.error)),
+            StandardStream::Output => write!(f, "standard output: {}", Reason(self.error)),
         }
     }
 }
@@ -214,6 +214,17 @@ impl Ending {
         }
     }
 
+    /// The end of a copy, which also returns its files.
+    pub fn of_copy<T: Drop>(run: Result<(T, Self), Self>) -> Self
+        ensures well { IfOk run (λ done. result ≡ done.1) }
+        ensures fails { IfErr run (λ ending. result ≡ ending) }
+    {
+        match run {
+            Ok((_files, ending)) => ending,
+            Err(failure) => failure,
+        }
+    }
+
     /// The end of a command that returns an ending only if it fails.
     pub fn of_command<T: Drop>(run: Result<T, Self>) -> Self
         ensures well { IsOk run → result ≡ Ending.Ran }
@@ -239,13 +250,13 @@ impl From<AllocError> for Ending {
 }
 
 /// The reason why files hold no world.
-impl From<Fault> for Ending {
+impl From<WorldFault> for Ending {
     ghost use Rattle.std.specs.Prelude.{◌≡◌};
     ghost use Rattle.world_folder.specs.declared.ending.Ending.TheVariants.{NoWorld};
 
     ghost from_gives = { λ fault ending. ending ≡ NoWorld fault };
 
-    fn from(fault: Fault) -> Self {
+    fn from(fault: WorldFault) -> Self {
         Ending::NoWorld(fault)
     }
 }
@@ -257,18 +268,18 @@ impl From<io::Error> for Ending {
     ghost from_gives = { λ _ ending. IsFault ending };
 
     fn from(error: io::Error) -> Self {
-        unprinted(error)
+        ending_of_print(error)
     }
 }
 
 /// How the program ends if a line can't be printed.
-pub fn unprinted(error: io::Error) -> Ending
+pub fn ending_of_print(error: io::Error) -> Ending
     ensures fault { IsFault result }
     ensures other { ¬ IsOccupied result }
 {
     match refusal_of(&error) {
         Refusal::Device => Ending::Stream(StreamFailure {
-            stream: Stream::Output,
+            stream: StandardStream::Output,
             error,
         }),
         refusal => Ending::Fault(refusal),

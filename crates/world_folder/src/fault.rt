@@ -24,7 +24,7 @@ pub struct Damaged {
 
 /// The reason why four files hold no world.
 #[derive(Clone, Copy, Debug, PartialEq, Eq)]
-pub enum Fault {
+pub enum WorldFault {
     /// There is no memory to read them.
     NoMemory,
     /// No image is open, and no file is damaged.
@@ -39,7 +39,7 @@ pub enum Fault {
     Lost(Lost),
 }
 
-impl Fault {
+impl WorldFault {
     ghost use Rattle.std.specs.Prelude.{◌≡◌};
     ghost use Rattle.world_folder.specs.Fault.{refusal_of};
 
@@ -48,23 +48,22 @@ impl Fault {
         ensures { result ≡ refusal_of self.now }
     {
         match self {
-            Fault::NoMemory => Refusal::NoMemory,
-            Fault::NoImage => Refusal::NoImage,
-            Fault::Images(_) => Refusal::BadImage,
-            Fault::Segments(_) | Fault::Replay => Refusal::BadLog,
-            Fault::Lost(Lost::Image(_) | Lost::ChangedImage(_)) => Refusal::BadImage,
-            Fault::Lost(Lost::Log(_) | Lost::Gap(_) | Lost::ChangedLog(_) | Lost::Older(_)) => {
-                Refusal::BadLog
-            }
+            WorldFault::NoMemory => Refusal::NoMemory,
+            WorldFault::NoImage => Refusal::NoImage,
+            WorldFault::Images(_) => Refusal::BadImage,
+            WorldFault::Segments(_) | WorldFault::Replay => Refusal::BadLog,
+            WorldFault::Lost(Lost::Image(_) | Lost::ChangedImage(_)) => Refusal::BadImage,
+            WorldFault::Lost(Lost::Log(_) | Lost::Gap(_) | Lost::ChangedLog(_) | Lost::Older(_)) =>
+                { Refusal::BadLog }
         }
     }
 }
 
-impl fmt::Display for Fault {
+impl fmt::Display for WorldFault {
     fn fmt<W: fmt::Write>(&self, f: &mut fmt::Formatter<W>) -> fmt::Result {
         let refusal = self.refusal();
         match self {
-            Fault::NoMemory | Fault::NoImage => write!(f, "{refusal}"),
+            WorldFault::NoMemory | WorldFault::NoImage => write!(f, "{refusal}"),
             _ => write!(f, "{refusal}: {}", FaultReason(*self)),
         }
     }
@@ -72,24 +71,24 @@ impl fmt::Display for Fault {
 
 // Why four files hold no world, beside the refusal.
 #[derive(Clone, Copy)]
-struct FaultReason(Fault);
+struct FaultReason(WorldFault);
 
 impl fmt::Display for FaultReason {
     ghost output = { λ reason. Some (reason_text reason.0) };
 
     fn fmt<W: fmt::Write>(&self, f: &mut fmt::Formatter<W>) -> fmt::Result {
         match self.0 {
-            Fault::NoMemory | Fault::NoImage => Ok(()),
-            Fault::Images(damaged) => {
+            WorldFault::NoMemory | WorldFault::NoImage => Ok(()),
+            WorldFault::Images(damaged) => {
                 let names = names_of(damaged, IMAGE_A, IMAGE_B);
                 write!(f, "{}{}{}", names.0, names.1, names.2)
             }
-            Fault::Segments(damaged) => {
+            WorldFault::Segments(damaged) => {
                 let names = names_of(damaged, LOG_A, LOG_B);
                 write!(f, "{}{}{}", names.0, names.1, names.2)
             }
-            Fault::Replay => f.write_str("an action of the log is refused in replay"),
-            Fault::Lost(lost) => write!(f, "{lost}"),
+            WorldFault::Replay => f.write_str("an action of the log is refused in replay"),
+            WorldFault::Lost(lost) => write!(f, "{lost}"),
         }
     }
 }
@@ -119,7 +118,11 @@ pub struct Found {
 
 /// The world that four files hold, or the reason why they hold none. A world that the checks refuse
 /// is none.
-pub fn stands_in(alloc: Global, files: &FourFiles<Vec<u8>>, checks: Checks) -> Result<Found, Fault>
+pub fn stands_in(
+    alloc: Global,
+    files: &FourFiles<Vec<u8>>,
+    checks: Checks,
+) -> Result<Found, WorldFault>
     ensures recovered { IfOk result (λ found. Stands files.now found.world) }
     ensures judged { IfOk result (λ found.
         AreJudged checks files.now found.world found.finding) }
@@ -128,12 +131,12 @@ pub fn stands_in(alloc: Global, files: &FourFiles<Vec<u8>>, checks: Checks) -> R
     let world = found_in(alloc, files)?;
     match judge(checks, world.tick, world.from, files) {
         Ok(finding) => Ok(Found { world, finding }),
-        Err(lost) => Err(Fault::Lost(lost)),
+        Err(lost) => Err(WorldFault::Lost(lost)),
     }
 }
 
 // Recovers the world in four files, or returns the reason why there is none.
-fn found_in(alloc: Global, files: &FourFiles<Vec<u8>>) -> Result<Recovered, Fault>
+fn found_in(alloc: Global, files: &FourFiles<Vec<u8>>) -> Result<Recovered, WorldFault>
     ensures recovered { IfOk result (Stands files.now) }
     ensures fault { IfErr result (λ fault. (asked : Asked) → Explains asked files.now fault) }
 {
@@ -150,25 +153,25 @@ fn found_in(alloc: Global, files: &FourFiles<Vec<u8>>) -> Result<Recovered, Faul
 }
 
 // Which file a refusal is of.
-fn fault_of(alloc: Global, files: &FourFiles<Vec<u8>>, refusal: Refusal) -> Fault
+fn fault_of(alloc: Global, files: &FourFiles<Vec<u8>>, refusal: Refusal) -> WorldFault
     requires { (refusal ≡ Refusal.NoMemory)
         ⊎ Recovers files.now.image_a.items files.now.image_b.items
         files.now.log_a.items files.now.log_b.items (Err refusal) }
     ensures { (asked : Asked) → Explains asked files.now result }
 {
     match refusal {
-        Refusal::NoImage => Fault::NoImage,
-        Refusal::BadImage => Fault::Images(Damaged {
+        Refusal::NoImage => WorldFault::NoImage,
+        Refusal::BadImage => WorldFault::Images(Damaged {
             a: is_bad_image(alloc, &files.image_a),
             b: is_bad_image(alloc, &files.image_b),
         }),
         Refusal::BadLog => fault_of_log(files),
-        _ => Fault::NoMemory,
+        _ => WorldFault::NoMemory,
     }
 }
 
 // Which segments are damaged, or that none is.
-fn fault_of_log(files: &FourFiles<Vec<u8>>) -> Fault
+fn fault_of_log(files: &FourFiles<Vec<u8>>) -> WorldFault
     requires { Recovers files.now.image_a.items files.now.image_b.items
         files.now.log_a.items files.now.log_b.items (Err Refusal.BadLog) }
     ensures { (asked : Asked) → Explains asked files.now result }
@@ -176,9 +179,9 @@ fn fault_of_log(files: &FourFiles<Vec<u8>>) -> Fault
     let a = is_bad_segment(&files.log_a);
     let b = is_bad_segment(&files.log_b);
     if a || b {
-        Fault::Segments(Damaged { a, b })
+        WorldFault::Segments(Damaged { a, b })
     } else {
-        Fault::Replay
+        WorldFault::Replay
     }
 }
 

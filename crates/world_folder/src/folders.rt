@@ -1,13 +1,14 @@
 //! The calls of the system that the commands make in one folder, and the lines that they print.
 ghost use Rattle.std.specs.Prelude.{◌≡◌, ◌∷◌, [], ℕ, Bool, true, false, Ok, List, Option, Some};
 ghost use Rattle.std.specs.Prelude.{None, ◌≢◌};
-ghost use Rattle.std.specs.Prelude.{IsTrue, IfOk, IfErr, OnOk, OnErr};
+ghost use Rattle.std.specs.Prelude.{IsTrue, IfOk, IfErr, OnOk, OnErr, IsErrAnd};
+ghost use Rattle.std.specs.Path.{path_buf_bytes, path_join};
 ghost use Rattle.std.specs.declared.io.Error.{Error};
 ghost use Rattle.std.proofs.lemmas.Bool.{false≢true};
 ghost use Rattle.disk_model.specs.Disk.{Only};
 ghost use Rattle.world_folder.specs.History.{Act, Looked, Opened, Made, Locked, Read, Measured};
 ghost use Rattle.world_folder.specs.History.{Asked, AskedOwn, NamesSynced, OwnNameSynced};
-ghost use Rattle.world_folder.specs.Ending.{IsFault};
+ghost use Rattle.world_folder.specs.Ending.{IsFault, ReportsOf};
 ghost use Rattle.world_folder.specs.History.{FoundEmpty, FoundOutside, Removed};
 ghost use Rattle.world_folder.specs.History.{GuardRead, GuardPut};
 ghost use Rattle.world_folder.specs.History.{IsPrinted, IsWarned, IsUnopened};
@@ -18,10 +19,13 @@ use crate::ending::Ending;
 use crate::entry::Entry;
 use crate::guard::Guard;
 use crate::locks::LockState;
+use crate::opening::{blame, ending_for, path_of};
 use disk_model::{Disk, WorldFile};
 use file_disk::FileDisk;
+use std::alloc::{AllocError, Global};
 use std::fmt::Display;
 use std::io;
+use std::path::PathBuf;
 
 /// How a file is opened to be read.
 #[derive(Clone, Copy, Debug, PartialEq, Eq)]
@@ -62,6 +66,9 @@ pub trait Folder {
     /// contracts state nothing of the calls.
     ghost honest: { Bool };
 
+    /// Its path.
+    ghost path: { Self → List ℕ };
+
     /// The calls that succeeded, and the lines that were printed, the latest one first.
     ghost history: { Self → List Act };
 
@@ -74,17 +81,49 @@ pub trait Folder {
     /// The file that a disk was taken of.
     ghost identity: { Self.File → FileIdentity };
 
+    fn alloc(&self) -> Global;
+
+    fn path(&self) -> &str
+        ensures { result.now ≡ path self.now };
+
+    /// The path of the file of this name.
+    fn path_of(&self, name: &str) -> Result<PathBuf, AllocError>
+        ensures { IfOk result (λ found. path_buf_bytes found ≡ path_join (path self.now) name.now) }
+    {
+        path_of(self.alloc(), self.path(), name)
+    }
+
+    /// How the program ends if the file of this name can't be used, and why.
+    fn ending_for(&self, name: &str, error: io::Error) -> Ending
+        ensures reports { ReportsOf (path self.now) name.now error result }
+        ensures fault { IsFault result }
+    {
+        ending_for(self.alloc(), self.path(), name, error)
+    }
+
+    /// The answer of a call. After an error the program ends, and names this file.
+    fn blame<T>(&self, name: &str, answer: io::Result<T>) -> Result<T, Ending>
+        ensures ok { IfOk answer (λ value. result ≡ Ok value) }
+        ensures fails { IfErr answer (λ error.
+            IsErrAnd result (ReportsOf (path self.now) name.now error)) }
+        ensures fault { IfErr result IsFault }
+    {
+        blame(self.alloc(), self.path(), name, answer)
+    }
+
     /// The entry under a name, if there is one. It follows no symbolic link.
     fn look(&mut self, file: WorldFile) -> io::Result<Option<Entry>>
         ensures looked { IsTrue honest
             → IfOk result (λ there. history self.new ≡ Looked file there ∷ history self.old) }
-        ensures failed { IsTrue honest → OnErr result (history self.new ≡ history self.old) };
+        ensures failed { IsTrue honest → OnErr result (history self.new ≡ history self.old) }
+        ensures path { path self.new ≡ path self.old };
 
     /// Opens the file to which a name leads, to read and write it.
     fn open(&mut self, file: WorldFile) -> io::Result<Self::Handle>
         ensures opened { IsTrue honest
             → IfOk result (λ handle. history self.new
-            ≡ Opened file (entry_of handle) ∷ history self.old) };
+            ≡ Opened file (entry_of handle) ∷ history self.old) }
+        ensures path { path self.new ≡ path self.old };
 
     /// Makes a file that only its owner may read and write. One that is there is an error.
     fn make(&mut self, file: WorldFile) -> io::Result<Self::Handle>
@@ -92,7 +131,8 @@ pub trait Folder {
             → IfOk result (λ handle. history self.new
             ≡ Made file (entry_of handle) ∷ history self.old) }
         ensures empty { IsTrue honest → IfOk result (λ handle. content_of handle ≡ []) }
-        ensures failed { IsTrue honest → OnErr result (history self.new ≡ history self.old) };
+        ensures failed { IsTrue honest → OnErr result (history self.new ≡ history self.old) }
+        ensures path { path self.new ≡ path self.old };
 
     /// Removes the file under a name.
     fn remove(&mut self, file: WorldFile) -> io::Result<()>
@@ -106,32 +146,40 @@ pub trait Folder {
             → IfOk result (λ disk. history self.new
             ≡ Read file (Self.File.content disk) ∷ history self.old) }
         ensures failed { IsTrue honest
-            → IfErr result (λ error. IsUnopened file error (history self.old) (history self.new)) };
+            → IfErr result (λ error. IsUnopened file error (history self.old) (history self.new)) }
+        ensures path { path self.new ≡ path self.old };
 
     /// Describes an open file.
-    fn entry(&mut self, handle: &Self::Handle) -> io::Result<Entry>
-        ensures entry { IsTrue honest → IfOk result (λ entry. entry ≡ entry_of handle.now) }
-        ensures kept { IsTrue honest → history self.new ≡ history self.old };
+    fn entry(&self, handle: &Self::Handle) -> io::Result<Entry>
+        ensures { IsTrue honest → IfOk result (λ entry. entry ≡ entry_of handle.now) };
 
     /// Locks an open file for this program, which writes it.
     fn lock(&mut self, handle: &Self::Handle) -> io::Result<()>
         ensures locked { IsTrue honest
-            → OnOk result (history self.new ≡ Locked (entry_of handle.now) ∷ history self.old) };
+            → OnOk result (history self.new ≡ Locked (entry_of handle.now) ∷ history self.old) }
+        ensures path { path self.new ≡ path self.old };
 
     /// Takes an open file as a disk, which is synced.
-    fn take(&mut self, handle: Self::Handle) -> io::Result<Self::File>
+    fn take(&self, handle: Self::Handle) -> io::Result<Self::File>
         ensures file { IsTrue honest
             → IfOk result (λ disk. identity disk ≡ (entry_of handle).identity) }
         ensures content { IsTrue honest → IsTrue Self.File.honest
             → IfOk result (λ disk. Self.File.content disk ≡ content_of handle) }
         ensures synced { IsTrue honest → IsTrue Self.File.honest
-            → IfOk result (λ disk. Only (Self.File.content disk) (Self.File.may_leave disk)) }
-        ensures kept { IsTrue honest → history self.new ≡ history self.old };
+            → IfOk result (λ disk. Only (Self.File.content disk) (Self.File.may_leave disk)) };
 
     /// Reads the guard of the world, if it has one.
     fn read_guard(&mut self) -> Result<Option<Guard>, Ending>
         ensures read { IsTrue honest
             → IfOk result (λ guard. history self.new ≡ GuardRead guard ∷ history self.old) }
+        ensures fault { IfErr result IsFault }
+        ensures path { path self.new ≡ path self.old };
+
+    /// How many seconds ago the guard was written or touched, if there is one.
+    fn guard_age(&self) -> Option<u64>;
+
+    /// Refuses to make a world in a folder that has the guard of another one.
+    fn unguarded(&self) -> Result<(), Ending>
         ensures fault { IfErr result IsFault };
 
     /// Puts a guard into a folder that has none, whole and durably. If that fails, it has none.
@@ -172,9 +220,9 @@ pub trait Folder {
 
     /// True if the folder lies in the one at a path, at any depth. A path that leads to no folder
     /// has none in it.
-    fn lies_in(&mut self, path: &str) -> io::Result<bool>
+    fn lies_in(&mut self, outer: &str) -> io::Result<bool>
         ensures outside { IsTrue honest → result ≡ Ok false
-            → history self.new ≡ FoundOutside path.now ∷ history self.old }
+            → history self.new ≡ FoundOutside outer.now ∷ history self.old }
         ensures other { IsTrue honest → result ≢ Ok false → history self.new ≡ history self.old };
 
     /// How long the file is to which a name leads.
@@ -189,12 +237,11 @@ pub trait Folder {
         ensures asked { IsTrue honest
             → IfOk result (λ state. history self.new ≡ Asked file state ∷ history self.old) };
 
-    /// The same of the lock of the folder itself.
+    /// Asks for the lock of the folder itself, as `lock_state` does for a file.
     fn own_lock_state(&mut self) -> io::Result<LockState>
         ensures asked { IsTrue honest
             → IfOk result (λ state. history self.new ≡ AskedOwn state ∷ history self.old) };
 
     /// Waits a moment.
-    fn pause(&mut self)
-        ensures { IsTrue honest → history self.new ≡ history self.old };
+    fn pause(&self);
 }

@@ -1,11 +1,10 @@
 //! The guard of a world in a folder of the system.
-ghost use Rattle.std.specs.Prelude.{◌≡◌, false, IfOk, IfErr};
+ghost use Rattle.std.specs.Prelude.{◌≡◌, false, IfErr};
 ghost use Rattle.world_folder.specs.Ending.{IsFault};
 
 use crate::ending::{Ending, Occupied};
 use crate::guard::{GUARD, GUARD_BYTES, Guard, NEW_GUARD};
-use crate::lost::{Checks, OnLoss};
-use crate::opening::{ending_for, opened, path_of};
+use crate::opening::{blame, ending_for, path_of};
 use crate::system_folder::OWNER_ALONE;
 use disk_model::{IMAGE_A, IMAGE_B, LOG_A, LOG_B};
 use std::fs::{self, File, Files, OpenOptions};
@@ -166,27 +165,10 @@ pub fn guarded<R: Files<File = File> + Clock + AllocGlobal>(
     match (guards, made) {
         (true, Ending::Ran) => {
             let written = put_guard(rt, folder, &new_guard(rt, 0, 0));
-            Ending::of_command(opened(rt.alloc(), folder, GUARD, written))
+            Ending::of_command(blame(rt.alloc(), folder, GUARD, written))
         }
         (_, made) => made,
     }
-}
-
-/// The checks of a command that looks at the world in a folder: a world that is older than its
-/// guard is named.
-pub fn checks_in<R: Files<File = File> + AllocGlobal>(
-    rt: &R,
-    folder: &str,
-    on_loss: OnLoss,
-) -> Result<Checks, Ending>
-    ensures named { IfOk result (λ checks.
-        (checks.lost ≡ on_loss) × (checks.older ≡ OnLoss.Warn)) }
-    ensures fault { IfErr result IsFault }
-{
-    Ok(Checks {
-        guard: read_guard(rt, folder)?,
-        ..Checks::of(on_loss)
-    })
 }
 
 /// The guard of a world that has never had one.

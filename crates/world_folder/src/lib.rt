@@ -2,7 +2,7 @@
 //! served, and how a program over one ends.
 //!
 //! `create` makes the files of a new world, and `create_of_words` those of one with given words.
-//! `open_existing` locks the files to serve their world. A `Folder` is where the files are: of the
+//! `open_files` locks the files to serve their world. A `Folder` is where the files are: of the
 //! system, or in memory. An `Ending` says what went wrong, and names the file.
 #![tactic(auto)]
 
@@ -19,13 +19,13 @@ mod forward;
 mod found;
 mod guard;
 mod guard_file;
+mod heads;
 mod laws;
 mod locks;
-mod look;
 mod lost;
 mod making;
 mod model_folder;
-mod noted;
+mod note;
 mod opening;
 mod own_file;
 mod present;
@@ -35,32 +35,29 @@ mod system_folder;
 mod unfinished;
 mod words_text;
 
-pub use checked::{Checked, NotRecovered, recover_checked};
+pub use checked::{Checked, NotRecovered, checks_in, recover_checked};
 pub use creating::{create, create_listed, create_of_words, create_zeros};
 pub use ending::{
-    Ending, Filled, Inside, NoPort, Occupied, ServerEnding, Stream, StreamFailure, Unlisted, Unwell,
+    Ending, Filled, Inside, NoPort, Occupied, ServerEnding, StandardStream, StreamFailure,
+    Unlisted, Unwell,
 };
 pub use entry::{Entry, FileKind, Identity};
 pub use escaped::Escaped;
 pub use exit::{Exit, Statuses};
-pub use fault::{Damaged, Fault, Found, stands_in};
+pub use fault::{Damaged, Found, WorldFault, stands_in};
 pub use folders::{Folder, Reading, WorldDisk};
 pub use found::{FoundReport, WorldReport};
 pub use guard::{GUARD, Guard, Older};
-pub use guard_file::{
-    checks_in, guard_age, guarded, new_guard, put_guard, read_guard, seconds_now, touch_guard,
-};
+pub use guard_file::{guarded, new_guard, put_guard, seconds_now, touch_guard};
+pub use heads::{IMAGE_HEAD, SEGMENT_HEAD, Summary, read_head, summary_of};
 pub use laws::{copies_are_of_a_moment, sound_files_have_no_gap};
 pub use locks::{LockState, lock};
-pub use look::{IMAGE_HEAD, Look, SEGMENT_HEAD, look_at, read_head};
 pub use lost::{Checks, Finding, Lost, OnLoss, older_finding};
 pub use making::{Made, make_in, make_of_words};
 pub use model_folder::{ModelDisk, ModelFolder, ModelHandle};
-pub use noted::Noted;
-pub use opening::{
-    Unreadable, ending_for, failure_of, open_existing, open_files, opened, path_of, sync_names,
-};
-pub use reading::{all_read, answered, read_file, read_folder, read_whole};
+pub use note::Note;
+pub use opening::{Unreadable, blame, ending_for, failure_of, open_files, path_of, sync_names};
+pub use reading::{all_read, explain, read_file, read_folder, read_whole};
 pub use system_error::Reason;
 pub use system_folder::SystemFolder;
 pub use unfinished::{Unfinished, Why};

@@ -9,7 +9,7 @@ ghost use Rattle.world_folder.specs.Lost.{older_finding, older_of, IsOfFile, IsR
 ghost use Rattle.world_folder.specs.Texts.{finding_text, lost_text};
 
 use crate::guard::{Guard, Older};
-use crate::look::{IMAGE_HEAD, SEGMENT_HEAD, read_head};
+use crate::heads::{IMAGE_HEAD, SEGMENT_HEAD, read_head};
 use disk_model::{Disk, FourFiles, IMAGE_A, IMAGE_B, LOG_A, LOG_B};
 use file_format::{CLOSED_GATE, Format, OPEN_GATE, Slot, marked_at};
 use std::alloc::Global;
@@ -387,7 +387,7 @@ pub fn read_heads<D: Disk>(
     ensures heads { IsTrue D.honest → IfOk result (λ heads. EachFile files.old heads
         (λ disk head. head.items ≡ take IMAGE_HEAD (D.content disk))) }
     ensures kept { IsTrue D.honest
-        → EachFile files.old files.new (KeepsFile D.content D.may_leave) }
+        → EachFile files.old files.new (KeepsFile D.Disk) }
     ensures refused { IfErr result (λ refusal. (refusal ≡ Refusal.Device)
         ⊎ (refusal ≡ Refusal.NoMemory)) }
 {

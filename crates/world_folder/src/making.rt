@@ -62,10 +62,10 @@ pub fn make_in<D: Disk>(
 ) -> Result<(FourFiles<D>, Made), (FourFiles<D>, Ending)>
     requires { (1 ≤ cells) × (cells ≤ CELLS) }
     ensures made { IsTrue D.honest → IfOk result (λ made.
-        AreMade D.content D.may_leave files cells made.0) }
+        AreMade D.Disk files cells made.0) }
     ensures cells { IfOk result (λ made. made.1.cells ≡ cells) }
     ensures unmade { IsTrue D.honest → IfErr result (λ unmade.
-        IsUnmade D.content D.may_leave folder.now files cells unmade.1 unmade.0) }
+        IsUnmade D.Disk folder.now files cells unmade.1 unmade.0) }
     ensures device { IfErr result (λ unmade. unmade.1 ≡ Ending.Fault Refusal.Device
         → SomeGrew (fault_counts D.faults files) (fault_counts D.faults unmade.0)) }
     ensures fault { IfErr result (λ unmade. IsFault unmade.1) }
@@ -91,10 +91,10 @@ pub fn make_of_words<D: Disk>(
 ) -> Result<(FourFiles<D>, Made), (FourFiles<D>, Ending)>
     requires { IsWorld words.now }
     ensures made { IsTrue D.honest → IfOk result (λ made.
-        HoldsWords D.content D.may_leave files words.now made.0) }
+        HoldsWords D.Disk files words.now made.0) }
     ensures cells { IfOk result (λ made. made.1.cells ≡ length words.now) }
     ensures unmade { IsTrue D.honest → IfErr result (λ unmade.
-        HoldsNoOther D.content D.may_leave folder.now files words.now unmade.1 unmade.0) }
+        HoldsNoOther D.Disk folder.now files words.now unmade.1 unmade.0) }
     ensures asked { IfOk result (λ made. OthersOnlyAsked D.called files made.0) }
     ensures unmade_asked { IfErr result (λ unmade. OthersOnlyAsked D.called files unmade.0) }
     ensures device { IfErr result (λ unmade. unmade.1 ≡ Ending.Fault Refusal.Device
@@ -132,7 +132,7 @@ fn closed_bytes<D: Disk>(
         SEGMENT_BYTES_MAX SEGMENT_BYTES_MAX
         files.old files.new }
     ensures kept { IsTrue D.honest
-        → EachFile files.old files.new (KeepsFile D.content D.may_leave) }
+        → EachFile files.old files.new (KeepsFile D.Disk) }
     ensures device { result ≡ Err (Ending.Fault Refusal.Device)
         → SomeGrew (fault_counts D.faults files.old) (fault_counts D.faults files.new) }
     ensures no_fault { OnOk result

@@ -8,12 +8,12 @@ ghost use Rattle.disk_model.specs.CrashOutcome.{IsCrashOutcome, content_stays};
 ghost use Rattle.disk_model.specs.FileState.{Calls};
 ghost use Rattle.world_folder.specs.ModelFolder.{act_of, acts_of};
 
-use crate::ending::Ending;
+use crate::ending::{Ending, Occupied};
 use crate::entry::{Entry, FileKind, Identity};
 use crate::folders::{Folder, Reading, WorldDisk};
-use crate::guard::Guard;
+use crate::guard::{GUARD, Guard};
 use crate::locks::LockState;
-use crate::noted::Noted;
+use crate::note::Note;
 use crate::system_error::error_of;
 use disk_model::{Disk, FourFiles, ModelFile, WorldFile};
 use std::alloc::{AllocError, Global};
@@ -83,43 +83,51 @@ impl WorldDisk for ModelDisk {
 /// A folder in memory. A read of a name gives the bytes that the folder was made with, whatever is
 /// written meanwhile. So a test gives the bytes of files that are to be made, too.
 #[derive(Drop)]
-pub struct ModelFolder {
+pub struct ModelFolder<'a> {
     alloc: Global,
+    path: &'a str,
     bytes: FourFiles<Vec<u8>>,
     there: FourFiles<bool>,
     guard: Option<Guard>,
     // The latest one first.
-    noted: Vec<Noted>,
+    notes: Vec<Note>,
 }
 
-impl ModelFolder {
+impl<'a> ModelFolder<'a> {
     /// A folder of which each file that is there has these bytes. A file that isn't there has them
     /// once it was made. It has no guard.
-    pub fn new(alloc: Global, bytes: FourFiles<Vec<u8>>, there: FourFiles<bool>) -> Self {
+    pub fn new(
+        alloc: Global,
+        path: &'a str,
+        bytes: FourFiles<Vec<u8>>,
+        there: FourFiles<bool>,
+    ) -> Self {
         ModelFolder {
             alloc,
+            path,
             bytes,
             there,
             guard: None,
-            noted: Vec::new(alloc),
+            notes: Vec::new(alloc),
         }
     }
 
     /// The calls that succeeded, and the lines that were printed, the latest one first.
-    pub fn noted(&self) -> &[Noted]
-        ensures { acts_of result.now ≡ acts_of self.now.noted.items }
+    pub fn notes(&self) -> &[Note]
+        ensures { acts_of result.now ≡ acts_of self.now.notes.items }
     {
-        &self.noted
+        &self.notes
     }
 
-    fn note(&mut self, noted: Noted) -> io::Result<()>
+    fn note(&mut self, note: Note) -> io::Result<()>
         ensures noted { OnOk result
-            (acts_of self.new.noted.items ≡ act_of noted ∷ acts_of self.old.noted.items) }
+            (acts_of self.new.notes.items ≡ act_of note ∷ acts_of self.old.notes.items) }
         ensures failed { OnErr result
-            (acts_of self.new.noted.items ≡ acts_of self.old.noted.items) }
+            (acts_of self.new.notes.items ≡ acts_of self.old.notes.items) }
         ensures memory { IfErr result (λ error. error_kind error ≡ ErrorKind.OutOfMemory) }
+        ensures path { self.new.path ≡ self.old.path }
     {
-        match self.noted.insert(0, noted) {
+        match self.notes.insert(0, note) {
             Ok(()) => Ok(()),
             Err(_) => Err(io::Error::from(AllocError)),
         }
@@ -161,14 +169,16 @@ fn disk_of(alloc: Global, bytes: Vec<u8>, identity: Identity) -> io::Result<Mode
     }
 }
 
-impl Folder for ModelFolder {
+impl Folder for ModelFolder<'_> {
     type Handle = ModelHandle;
 
     type File = ModelDisk;
 
     ghost honest = { true };
 
-    ghost history = { λ folder. acts_of folder.noted.items };
+    ghost path = { λ folder. folder.path.now };
+
+    ghost history = { λ folder. acts_of folder.notes.items };
 
     ghost entry_of = { λ handle. handle.entry };
 
@@ -176,20 +186,28 @@ impl Folder for ModelFolder {
 
     ghost identity = { λ disk. disk.identity };
 
+    fn alloc(&self) -> Global {
+        self.alloc
+    }
+
+    fn path(&self) -> &str {
+        self.path
+    }
+
     fn look(&mut self, file: WorldFile) -> io::Result<Option<Entry>> {
         let there = if *self.there.get(file) {
             Some(entry_of(file))
         } else {
             None
         };
-        self.note(Noted::Looked(file, there))?;
+        self.note(Note::Looked(file, there))?;
         Ok(there)
     }
 
     fn open(&mut self, file: WorldFile) -> io::Result<ModelHandle> {
         let bytes = self.copy_of(file)?;
         let entry = entry_of(file);
-        self.note(Noted::Opened(file, entry))?;
+        self.note(Note::Opened(file, entry))?;
         Ok(ModelHandle { entry, bytes })
     }
 
@@ -198,7 +216,7 @@ impl Folder for ModelFolder {
             return Err(io::Error::from_raw_os_error(libc::EEXIST));
         }
         let entry = entry_of(file);
-        self.note(Noted::Made(file, entry))?;
+        self.note(Note::Made(file, entry))?;
         self.there.set(file, true);
         Ok(ModelHandle {
             entry,
@@ -210,64 +228,76 @@ impl Folder for ModelFolder {
         if !*self.there.get(file) {
             return Err(io::Error::from_raw_os_error(libc::ENOENT));
         }
-        self.note(Noted::Removed(file))?;
+        self.note(Note::Removed(file))?;
         self.there.set(file, false);
         Ok(())
     }
 
     fn open_to_read(&mut self, file: WorldFile, _how: Reading) -> io::Result<ModelDisk> {
         if !*self.there.get(file) {
-            self.note(Noted::Unopened(file))?;
+            self.note(Note::Unopened(file))?;
             return Err(io::Error::from_raw_os_error(libc::ENOENT));
         }
         let bytes = Vec::from_slice(self.alloc, self.bytes.get(file))?;
         let disk = disk_of(self.alloc, bytes, entry_of(file).identity)?;
         let read = Vec::from_slice(self.alloc, disk.file.now())?;
-        self.note(Noted::Read(file, read))?;
+        self.note(Note::Read(file, read))?;
         Ok(disk)
     }
 
-    fn entry(&mut self, handle: &ModelHandle) -> io::Result<Entry> {
+    fn entry(&self, handle: &ModelHandle) -> io::Result<Entry> {
         Ok(handle.entry)
     }
 
     fn lock(&mut self, handle: &ModelHandle) -> io::Result<()> {
-        self.note(Noted::Locked(handle.entry))
+        self.note(Note::Locked(handle.entry))
     }
 
-    fn take(&mut self, handle: ModelHandle) -> io::Result<ModelDisk> {
+    fn take(&self, handle: ModelHandle) -> io::Result<ModelDisk> {
         let ModelHandle { entry, bytes } = handle;
         disk_of(self.alloc, bytes, entry.identity)
     }
 
     fn read_guard(&mut self) -> Result<Option<Guard>, Ending> {
         let guard = self.guard;
-        self.note(Noted::GuardRead(guard))?;
+        self.note(Note::GuardRead(guard))?;
         Ok(guard)
     }
 
+    fn guard_age(&self) -> Option<u64> {
+        None
+    }
+
+    fn unguarded(&self) -> Result<(), Ending> {
+        if self.guard.is_none() {
+            return Ok(());
+        }
+        let path = self.path_of(GUARD)?;
+        Err(Ending::Occupied(Occupied { path }))
+    }
+
     fn put_guard(&mut self, guard: &Guard) -> io::Result<()> {
-        self.note(Noted::GuardPut(*guard))?;
+        self.note(Note::GuardPut(*guard))?;
         self.guard = Some(*guard);
         Ok(())
     }
 
     fn sync_names(&mut self) -> io::Result<()> {
-        self.note(Noted::NamesSynced)
+        self.note(Note::NamesSynced)
     }
 
     fn sync_own_name(&mut self) -> io::Result<()> {
-        self.note(Noted::OwnNameSynced)
+        self.note(Note::OwnNameSynced)
     }
 
     fn print<T: Display + Drop>(&mut self, line: T) -> io::Result<()> {
         let text = line.to_string(self.alloc)?;
-        self.note(Noted::Printed(text))
+        self.note(Note::Printed(text))
     }
 
     fn warn<T: Display + Drop>(&mut self, line: T) -> io::Result<()> {
         let text = line.to_string(self.alloc)?;
-        self.note(Noted::Warned(text))
+        self.note(Note::Warned(text))
     }
 
     fn is_empty(&mut self) -> io::Result<bool> {
@@ -275,32 +305,32 @@ impl Folder for ModelFolder {
         if there.image_a || there.image_b || there.log_a || there.log_b {
             return Ok(false);
         }
-        self.note(Noted::FoundEmpty)?;
+        self.note(Note::FoundEmpty)?;
         Ok(true)
     }
 
     // Folders in memory don't lie in one another.
-    fn lies_in(&mut self, path: &str) -> io::Result<bool> {
-        let path = String::from_str(self.alloc, path)?;
-        self.note(Noted::FoundOutside(path))?;
+    fn lies_in(&mut self, outer: &str) -> io::Result<bool> {
+        let outer = String::from_str(self.alloc, outer)?;
+        self.note(Note::FoundOutside(outer))?;
         Ok(false)
     }
 
     fn length(&mut self, file: WorldFile) -> io::Result<u64> {
         let length = self.copy_of(file)?.len() as u64;
-        self.note(Noted::Measured(file, length))?;
+        self.note(Note::Measured(file, length))?;
         Ok(length)
     }
 
     fn lock_state(&mut self, file: WorldFile) -> io::Result<LockState> {
-        self.note(Noted::Asked(file, LockState::Free))?;
+        self.note(Note::Asked(file, LockState::Free))?;
         Ok(LockState::Free)
     }
 
     fn own_lock_state(&mut self) -> io::Result<LockState> {
-        self.note(Noted::AskedOwn(LockState::Free))?;
+        self.note(Note::AskedOwn(LockState::Free))?;
         Ok(LockState::Free)
     }
 
-    fn pause(&mut self) {}
+    fn pause(&self) {}
 }

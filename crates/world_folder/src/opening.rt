@@ -13,13 +13,9 @@ use crate::entry::Identity;
 use crate::folders::{Folder, WorldDisk};
 use crate::own_file::{OwnFile, are_apart, open_own};
 use crate::system_error::Reason;
-use crate::system_folder::SystemFolder;
 use disk_model::{FourFiles, WorldFile};
-use file_disk::FileDisk;
 use std::alloc::{AllocError, Global};
-use std::fs::{File, Files};
 use std::path::{Path, PathBuf};
-use std::time::Clock;
 use std::{fmt, io};
 use world_actions::Refusal;
 
@@ -40,7 +36,7 @@ impl fmt::Display for Unreadable {
 }
 
 /// Makes the names of a folder's files durable, and its own.
-pub fn sync_names<F: Folder>(alloc: Global, folder: &mut F, path: &str) -> Result<(), Ending>
+pub fn sync_names<F: Folder>(folder: &mut F) -> Result<(), Ending>
     ensures synced { IsTrue F.honest
         → OnOk result (F.history folder.new ≡ synced (F.history folder.old)) }
     ensures left { IsTrue F.honest → KeepsLeft (F.history folder.old) (F.history folder.new) }
@@ -48,38 +44,25 @@ pub fn sync_names<F: Folder>(alloc: Global, folder: &mut F, path: &str) -> Resul
     ensures fault { IfErr result IsFault }
 {
     let named = folder.sync_names();
-    opened(alloc, path, "", named)?;
-    let named = folder.sync_own_name();
-    opened(alloc, path, ABOVE, named)
+    folder.blame("", named)?;
+    match folder.sync_own_name() {
+        Ok(()) => Ok(()),
+        Err(error) => Err(folder.ending_for(ABOVE, error)),
+    }
 }
 
-/// Opens the four files of a folder to serve the world in them, as `open_files` does.
-pub fn open_existing<R: Files<File = File> + Clock + Print + Eprint + AllocGlobal>(
-    rt: &R,
-    folder: &str,
-) -> Result<FourFiles<FileDisk>, Ending>
-    ensures { IfErr result IsFault }
-{
-    open_files(rt.alloc(), &mut SystemFolder::new(rt, folder), folder)
-}
-
-/// Opens the four files of a folder at this path to serve the world in them. It makes none, and
-/// syncs the folder. It refuses a symbolic link, a file with a second name, and one file twice.
-/// A writer of a world holds a lock on its image.a as long as the file is open, so no two
-/// programs write it.
-pub fn open_files<F: Folder>(
-    alloc: Global,
-    folder: &mut F,
-    path: &str,
-) -> Result<FourFiles<F::File>, Ending>
+/// Opens the four files of a folder to serve the world in them. It makes none, and syncs the
+/// folder. It refuses a symbolic link, a file with a second name, and one file twice. A writer of a
+/// world holds a lock on its image.a as long as the file is open, so no two programs write it.
+pub fn open_files<F: Folder>(folder: &mut F) -> Result<FourFiles<F::File>, Ending>
     ensures held { IsTrue F.honest
         → IfOk result (λ files.
         AreHeld F.identity files (F.history folder.old) (F.history folder.new)) }
     ensures fault { IfErr result IsFault }
 {
-    let files = open_each(alloc, folder, path)?;
+    let files = open_each(folder)?;
     let settled = settle(folder, &identities_of(&files));
-    opened(alloc, path, "", settled)?;
+    folder.blame("", settled)?;
     Ok(disks_of(files))
 }
 
@@ -95,11 +78,7 @@ fn settle<F: Folder>(folder: &mut F, files: &FourFiles<Option<Identity>>) -> io:
 
 // Opens each file by its own name, image.a first: no two programs then hold a part of
 // the files each.
-fn open_each<F: Folder>(
-    alloc: Global,
-    folder: &mut F,
-    path: &str,
-) -> Result<FourFiles<OwnFile<F::File>>, Ending>
+fn open_each<F: Folder>(folder: &mut F) -> Result<FourFiles<OwnFile<F::File>>, Ending>
     ensures own { IsTrue F.honest → IfOk result (λ files.
         AreOwn (λ own. F.identity own.disk) files (F.history folder.old) (F.history folder.new)) }
     ensures identities { IsTrue F.honest
@@ -108,28 +87,23 @@ fn open_each<F: Folder>(
     ensures fault { IfErr result IsFault }
 {
     Ok(FourFiles {
-        image_a: open_named(alloc, folder, path, WorldFile::ImageA)?,
-        image_b: open_named(alloc, folder, path, WorldFile::ImageB)?,
-        log_a: open_named(alloc, folder, path, WorldFile::LogA)?,
-        log_b: open_named(alloc, folder, path, WorldFile::LogB)?,
+        image_a: open_named(folder, WorldFile::ImageA)?,
+        image_b: open_named(folder, WorldFile::ImageB)?,
+        log_a: open_named(folder, WorldFile::LogA)?,
+        log_b: open_named(folder, WorldFile::LogB)?,
     })
 }
 
-fn open_named<F: Folder>(
-    alloc: Global,
-    folder: &mut F,
-    path: &str,
-    file: WorldFile,
-) -> Result<OwnFile<F::File>, Ending>
+fn open_named<F: Folder>(folder: &mut F, file: WorldFile) -> Result<OwnFile<F::File>, Ending>
     ensures own { IsTrue F.honest
         → IfOk result (λ own.
         IsOwn file (F.identity own.disk) (F.history folder.old) (F.history folder.new)) }
     ensures identity { IsTrue F.honest → IfOk result (λ own. own.identity ≡ F.identity own.disk) }
-    ensures named { IfErr result (NamesFile path.now file) }
+    ensures named { IfErr result (NamesFile (F.path folder.old) file) }
     ensures fault { IfErr result IsFault }
 {
     let own = open_own(folder, file);
-    opened(alloc, path, file.name(), own)
+    folder.blame(file.name(), own)
 }
 
 fn identities_of<D>(files: &FourFiles<OwnFile<D>>) -> FourFiles<Option<Identity>>
@@ -144,13 +118,8 @@ fn disks_of<D>(files: FourFiles<OwnFile<D>>) -> FourFiles<D>
     files.map(|OwnFile { disk, .. }| disk)
 }
 
-/// The value that the system gave for a file, or how the program ends if it gave an error.
-pub fn opened<T>(
-    alloc: Global,
-    folder: &str,
-    name: &str,
-    answer: io::Result<T>,
-) -> Result<T, Ending>
+/// The answer of a call. After an error the program ends, and names this file in a folder.
+pub fn blame<T>(alloc: Global, folder: &str, name: &str, answer: io::Result<T>) -> Result<T, Ending>
     ensures ok { IfOk answer (λ value. result ≡ Ok value) }
     ensures fails { IfErr answer (λ error. IsErrAnd result (ReportsOf folder.now name.now error)) }
     ensures fault { IfErr result IsFault }
@@ -179,35 +148,28 @@ pub fn path_of(alloc: Global, folder: &str, name: &str) -> Result<PathBuf, Alloc
     Path::new(folder).join(alloc, name)
 }
 
-/// How the program ends if a call of one of the files failed: the first one is named.
-pub fn failure_of<D: WorldDisk + Drop>(alloc: Global, folder: &str, files: FourFiles<D>) -> Ending
-    ensures first { IsTrue D.honest
-        → ReportsFailure folder.now (first_failure (mapped D.failure files)) result }
+/// How the program ends if a call of one of a folder's files failed: the first one is named.
+pub fn failure_of<F: Folder>(folder: &F, files: FourFiles<F::File>) -> Ending
+    ensures first { IsTrue F.File.honest
+        → ReportsFailure (F.path folder.now) (first_failure (mapped F.File.failure files)) result }
     ensures other { ¬ IsOccupied result }
     ensures fault { IsFault result }
 {
-    failure_of_present(alloc, folder, files.map(|file| Some(file)))
+    failure_of_present(folder, files.map(|file| Some(file)))
 }
 
-/// The same of those files that are there.
-pub fn failure_of_present<D: WorldDisk + Drop>(
-    alloc: Global,
-    folder: &str,
-    files: FourFiles<Option<D>>,
-) -> Ending
-    ensures first { IsTrue D.honest
-        → ReportsFailure folder.now
-        (first_failure (mapped (failure_there D.failure) files)) result }
+/// How the program ends if a call failed of one of those files that are there.
+pub fn failure_of_present<F: Folder>(folder: &F, files: FourFiles<Option<F::File>>) -> Ending
+    ensures first { IsTrue F.File.honest
+        → ReportsFailure (F.path folder.now)
+        (first_failure (mapped (failure_there F.File.failure) files)) result }
     ensures other { ¬ IsOccupied result }
     ensures fault { IsFault result }
 {
     let mut files = files;
-    let Some((file, error)) = first_failure(&mut files) else {
-        return Ending::Fault(Refusal::Device);
-    };
-    match path_of(alloc, folder, file.name()) {
-        Ok(path) => Ending::Unreadable(Unreadable { path, error }),
-        Err(_) => Ending::Fault(Refusal::NoMemory),
+    match first_failure(&mut files) {
+        Some((file, error)) => folder.ending_for(file.name(), error),
+        None => Ending::Fault(Refusal::Device),
     }
 }
 

@@ -27,6 +27,7 @@ pub fn open_own<F: Folder>(folder: &mut F, file: WorldFile) -> io::Result<OwnFil
         → IfOk result (λ own.
         IsOwn file (F.identity own.disk) (F.history folder.old) (F.history folder.new)) }
     ensures disk { IsTrue F.honest → IfOk result (λ own. own.identity ≡ F.identity own.disk) }
+    ensures path { F.path folder.new ≡ F.path folder.old }
 {
     match find_own(folder, file)? {
         Some(own) => Ok(own),
@@ -34,7 +35,7 @@ pub fn open_own<F: Folder>(folder: &mut F, file: WorldFile) -> io::Result<OwnFil
     }
 }
 
-/// The same, or `None` if nothing stands under this name.
+/// Opens a file as `open_own` does, or returns `None` if nothing stands under this name.
 pub fn find_own<F: Folder>(folder: &mut F, file: WorldFile) -> io::Result<Option<OwnFile<F::File>>>
     ensures own { IsTrue F.honest → IfOk result (λ found.
         IfSome found (λ own.
@@ -45,6 +46,7 @@ pub fn find_own<F: Folder>(folder: &mut F, file: WorldFile) -> io::Result<Option
         → IfOk result (λ found. IfSome found (λ own. own.identity ≡ F.identity own.disk)) }
     ensures synced { IsTrue F.honest → IsTrue F.File.honest → IfOk result (λ found.
         IfSome found (λ own. Only (F.File.content own.disk) (F.File.may_leave own.disk))) }
+    ensures path { F.path folder.new ≡ F.path folder.old }
 {
     match folder.look(file)? {
         Some(there) => Ok(Some(open_there(folder, file, there)?)),
@@ -64,6 +66,7 @@ fn open_there<F: Folder>(
     ensures disk { IsTrue F.honest → IfOk result (λ own. own.identity ≡ F.identity own.disk) }
     ensures synced { IsTrue F.honest → IsTrue F.File.honest
         → IfOk result (λ own. Only (F.File.content own.disk) (F.File.may_leave own.disk)) }
+    ensures path { F.path folder.new ≡ F.path folder.old }
 {
     unless_odd(there)?;
     let handle = folder.open(file)?;
@@ -116,6 +119,7 @@ pub fn take_own<F: Folder>(
         → IfOk result (λ disk. F.File.content disk ≡ F.content_of handle) }
     ensures synced { IsTrue F.honest → IsTrue F.File.honest
         → IfOk result (λ disk. Only (F.File.content disk) (F.File.may_leave disk)) }
+    ensures path { F.path folder.new ≡ F.path folder.old }
 {
     if file == WorldFile::ImageA {
         folder.lock(&handle)?;

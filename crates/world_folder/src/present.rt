@@ -9,37 +9,28 @@ ghost use Rattle.world_folder.specs.OwnFile.{AreLookedFor, IsOwnIfThere};
 use crate::ending::Ending;
 use crate::entry::Identity;
 use crate::folders::Folder;
-use crate::opening::opened;
 use crate::own_file::{OwnFile, are_apart, find_own};
 use disk_model::{FourFiles, WorldFile};
-use std::alloc::Global;
 
 /// Opens those files of a folder that are there, to write them, with the refusals and the lock of
 /// `open_files`. It makes none.
-pub fn open_present<F: Folder>(
-    alloc: Global,
-    folder: &mut F,
-    path: &str,
-) -> Result<FourFiles<Option<F::File>>, Ending>
+pub fn open_present<F: Folder>(folder: &mut F) -> Result<FourFiles<Option<F::File>>, Ending>
     ensures found { IsTrue F.honest → IfOk result
         (λ files. AreFound F.identity files (F.history folder.old) (F.history folder.new)) }
     ensures synced { IsTrue F.honest → IsTrue F.File.honest
-        → IfOk result (EachSynced F.File.content F.File.may_leave) }
+        → IfOk result (EachSynced F.File.Disk) }
     ensures other { IfErr result (λ ending. ¬ IsOccupied ending) }
     ensures fault { IfErr result IsFault }
+    ensures path { F.path folder.new ≡ F.path folder.old }
 {
-    let files = find_each(alloc, folder, path)?;
+    let files = find_each(folder)?;
     let apart = are_apart(&identities_of(&files));
-    opened(alloc, path, "", apart)?;
+    folder.blame("", apart)?;
     Ok(disks_of(files))
 }
 
 // Looks for each file by its own name, image.a first.
-fn find_each<F: Folder>(
-    alloc: Global,
-    folder: &mut F,
-    path: &str,
-) -> Result<FourFiles<Option<OwnFile<F::File>>>, Ending>
+fn find_each<F: Folder>(folder: &mut F) -> Result<FourFiles<Option<OwnFile<F::File>>>, Ending>
     ensures found { IsTrue F.honest
         → IfOk result (λ files. AreLookedFor (λ own. F.identity own.disk) files
         (F.history folder.old) (F.history folder.new)) }
@@ -52,19 +43,18 @@ fn find_each<F: Folder>(
         Only (F.File.content own.disk) (F.File.may_leave own.disk)))) }
     ensures other { IfErr result (λ ending. ¬ IsOccupied ending) }
     ensures fault { IfErr result IsFault }
+    ensures path { F.path folder.new ≡ F.path folder.old }
 {
     Ok(FourFiles {
-        image_a: find_named(alloc, folder, path, WorldFile::ImageA)?,
-        image_b: find_named(alloc, folder, path, WorldFile::ImageB)?,
-        log_a: find_named(alloc, folder, path, WorldFile::LogA)?,
-        log_b: find_named(alloc, folder, path, WorldFile::LogB)?,
+        image_a: find_named(folder, WorldFile::ImageA)?,
+        image_b: find_named(folder, WorldFile::ImageB)?,
+        log_a: find_named(folder, WorldFile::LogA)?,
+        log_b: find_named(folder, WorldFile::LogB)?,
     })
 }
 
 fn find_named<F: Folder>(
-    alloc: Global,
     folder: &mut F,
-    path: &str,
     file: WorldFile,
 ) -> Result<Option<OwnFile<F::File>>, Ending>
     ensures found { IsTrue F.honest → IfOk result (λ found.
@@ -74,12 +64,13 @@ fn find_named<F: Folder>(
         → IfOk result (λ found. IfSome found (λ own. own.identity ≡ F.identity own.disk)) }
     ensures synced { IsTrue F.honest → IsTrue F.File.honest → IfOk result (λ found.
         IfSome found (λ own. Only (F.File.content own.disk) (F.File.may_leave own.disk))) }
-    ensures named { IfErr result (NamesFile path.now file) }
+    ensures named { IfErr result (NamesFile (F.path folder.old) file) }
     ensures other { IfErr result (λ ending. ¬ IsOccupied ending) }
     ensures fault { IfErr result IsFault }
+    ensures path { F.path folder.new ≡ F.path folder.old }
 {
     let found = find_own(folder, file);
-    opened(alloc, path, file.name(), found)
+    folder.blame(file.name(), found)
 }
 
 fn identities_of<D>(files: &FourFiles<Option<OwnFile<D>>>) -> FourFiles<Option<Identity>>

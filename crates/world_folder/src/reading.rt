@@ -8,7 +8,6 @@ ghost use Rattle.world_folder.specs.ReadIn.{IsFileRead, IsReadIn};
 
 use crate::ending::Ending;
 use crate::folders::{Folder, Reading, WorldDisk};
-use crate::opening::opened;
 use crate::system_error::error_of;
 use disk_model::{Disk, FourFiles, IMAGE_A, IMAGE_B, LOG_A, LOG_B, WorldFile};
 use file_readers::{read_image_file, read_segment_file};
@@ -18,27 +17,27 @@ use world_actions::Refusal;
 
 /// The bytes of each file of a folder that its format reads, or why it can't be read. Each is
 /// opened for reading only, and nothing is locked.
-pub fn read_folder<F: Folder>(alloc: Global, folder: &mut F) -> FourFiles<io::Result<Vec<u8>>>
+pub fn read_folder<F: Folder>(folder: &mut F) -> FourFiles<io::Result<Vec<u8>>>
     ensures { IsTrue F.honest → IsTrue F.File.honest
         → AreInTurn IsReadIn result (F.history folder.old) (F.history folder.new) }
 {
     FourFiles {
-        image_a: read_file(alloc, folder, WorldFile::ImageA),
-        image_b: read_file(alloc, folder, WorldFile::ImageB),
-        log_a: read_file(alloc, folder, WorldFile::LogA),
-        log_b: read_file(alloc, folder, WorldFile::LogB),
+        image_a: read_file(folder, WorldFile::ImageA),
+        image_b: read_file(folder, WorldFile::ImageB),
+        log_a: read_file(folder, WorldFile::LogA),
+        log_b: read_file(folder, WorldFile::LogB),
     }
 }
 
 /// The bytes of a file of a folder that its format reads, or why it can't be read. It is opened for
 /// reading only, and synced before.
-pub fn read_file<F: Folder>(alloc: Global, folder: &mut F, file: WorldFile) -> io::Result<Vec<u8>>
+pub fn read_file<F: Folder>(folder: &mut F, file: WorldFile) -> io::Result<Vec<u8>>
     ensures { IsTrue F.honest → IsTrue F.File.honest
         → IsReadIn file result (F.history folder.old) (F.history folder.new) }
 {
     let mut disk = folder.open_to_read(file, Reading::Synced)?;
-    let bytes = read_whole(alloc, file, &mut disk);
-    answered(&mut disk, bytes)
+    let bytes = read_whole(folder.alloc(), file, &mut disk);
+    explain(&mut disk, bytes)
 }
 
 /// The bytes of a file that its format reads.
@@ -54,7 +53,7 @@ pub fn read_whole<D: Disk>(alloc: Global, file: WorldFile, disk: &mut D) -> Resu
 }
 
 /// The answer of a call, or the system's error if a call of the file failed.
-pub fn answered<D: WorldDisk, T>(disk: &mut D, answer: Result<T, Refusal>) -> io::Result<T>
+pub fn explain<D: WorldDisk, T>(disk: &mut D, answer: Result<T, Refusal>) -> io::Result<T>
     ensures ok { IfOk answer (λ value. (result ≡ Ok value) × (disk.new ≡ disk.old)) }
     ensures fails { OnErr answer (IsErr result) }
     ensures reason { IsTrue D.honest
@@ -71,19 +70,18 @@ pub fn answered<D: WorldDisk, T>(disk: &mut D, answer: Result<T, Refusal>) -> io
 }
 
 /// The bytes of all files if each was read, else how the program ends for the first that wasn't.
-pub fn all_read(
-    alloc: Global,
-    folder: &str,
+pub fn all_read<F: Folder>(
+    folder: &F,
     read: FourFiles<io::Result<Vec<u8>>>,
 ) -> Result<FourFiles<Vec<u8>>, Ending>
     ensures read { IfOk result (AreRead read) }
-    ensures unread { IfErr result (ReportsOfFirst folder.now read) }
+    ensures unread { IfErr result (ReportsOfFirst (F.path folder.now) read) }
     ensures fault { IfErr result IsFault }
 {
     Ok(FourFiles {
-        image_a: opened(alloc, folder, IMAGE_A, read.image_a)?,
-        image_b: opened(alloc, folder, IMAGE_B, read.image_b)?,
-        log_a: opened(alloc, folder, LOG_A, read.log_a)?,
-        log_b: opened(alloc, folder, LOG_B, read.log_b)?,
+        image_a: folder.blame(IMAGE_A, read.image_a)?,
+        image_b: folder.blame(IMAGE_B, read.image_b)?,
+        log_a: folder.blame(LOG_A, read.log_a)?,
+        log_b: folder.blame(LOG_B, read.log_b)?,
     })
 }

@@ -9,11 +9,11 @@ use crate::folders::{Folder, Reading};
 use crate::guard::Guard;
 use crate::guard_file::{self, remove_guard};
 use crate::locks::{self, LockState};
-use crate::opening::ABOVE;
+use crate::opening::{ABOVE, path_of};
 use crate::own_file::NOT_REGULAR;
 use disk_model::WorldFile;
 use file_disk::FileDisk;
-use std::alloc::AllocError;
+use std::alloc::Global;
 use std::fmt::Display;
 use std::fs::{self, File, Files, OpenOptions};
 use std::io::{self, ErrorKind};
@@ -40,14 +40,14 @@ impl<'a, R: Files<File = File> + AllocGlobal> SystemFolder<'a, R> {
         SystemFolder { rt, path }
     }
 
-    fn path_of(&self, file: WorldFile) -> Result<PathBuf, AllocError> {
-        Path::new(self.path).join(self.rt.alloc(), file.name())
+    fn file_path(&self, file: WorldFile) -> io::Result<PathBuf> {
+        Ok(path_of(self.rt.alloc(), self.path, file.name())?)
     }
 
     // Opens a file only to read it. A file of another kind isn't opened: to open a pipe
     // waits for its writer.
     fn open_plain(&self, file: WorldFile) -> io::Result<File> {
-        let path = self.path_of(file)?;
+        let path = self.file_path(file)?;
         if !fs::metadata(self.rt, path.as_path())?.is_file() {
             return Err(io::Error::other(NOT_REGULAR));
         }
@@ -62,6 +62,8 @@ impl<R: Files<File = File> + Clock + Print + Eprint + AllocGlobal> Folder for Sy
 
     ghost honest = { false };
 
+    ghost path = { λ folder. folder.path.now };
+
     ghost history = { λ _. [] };
 
     ghost entry_of = { λ _. no_entry };
@@ -70,8 +72,16 @@ impl<R: Files<File = File> + Clock + Print + Eprint + AllocGlobal> Folder for Sy
 
     ghost identity = { λ _. no_identity };
 
+    fn alloc(&self) -> Global {
+        self.rt.alloc()
+    }
+
+    fn path(&self) -> &str {
+        self.path
+    }
+
     fn look(&mut self, file: WorldFile) -> io::Result<Option<Entry>> {
-        match fs::symlink_metadata(self.rt, self.path_of(file)?.as_path()) {
+        match fs::symlink_metadata(self.rt, self.file_path(file)?.as_path()) {
             Ok(metadata) => Ok(Some(Entry::of(&metadata))),
             Err(error) if error.kind() == ErrorKind::NotFound => Ok(None),
             Err(error) => Err(error),
@@ -81,7 +91,7 @@ impl<R: Files<File = File> + Clock + Print + Eprint + AllocGlobal> Folder for Sy
     fn open(&mut self, file: WorldFile) -> io::Result<File> {
         let mut how = OpenOptions::new();
         how.read(true).write(true);
-        how.open(self.rt, self.path_of(file)?.as_path())
+        how.open(self.rt, self.file_path(file)?.as_path())
     }
 
     fn make(&mut self, file: WorldFile) -> io::Result<File> {
@@ -90,11 +100,11 @@ impl<R: Files<File = File> + Clock + Print + Eprint + AllocGlobal> Folder for Sy
             .write(true)
             .create_new(true)
             .mode(OWNER_ALONE)
-            .open(self.rt, self.path_of(file)?.as_path())
+            .open(self.rt, self.file_path(file)?.as_path())
     }
 
     fn remove(&mut self, file: WorldFile) -> io::Result<()> {
-        fs::remove_file(self.rt, self.path_of(file)?.as_path())
+        fs::remove_file(self.rt, self.file_path(file)?.as_path())
     }
 
     fn open_to_read(&mut self, file: WorldFile, how: Reading) -> io::Result<FileDisk> {
@@ -105,7 +115,7 @@ impl<R: Files<File = File> + Clock + Print + Eprint + AllocGlobal> Folder for Sy
         }
     }
 
-    fn entry(&mut self, handle: &File) -> io::Result<Entry> {
+    fn entry(&self, handle: &File) -> io::Result<Entry> {
         Ok(Entry::of(&handle.metadata()?))
     }
 
@@ -113,12 +123,20 @@ impl<R: Files<File = File> + Clock + Print + Eprint + AllocGlobal> Folder for Sy
         locks::lock(self.rt, handle)
     }
 
-    fn take(&mut self, handle: File) -> io::Result<FileDisk> {
+    fn take(&self, handle: File) -> io::Result<FileDisk> {
         FileDisk::open(handle)
     }
 
     fn read_guard(&mut self) -> Result<Option<Guard>, Ending> {
         guard_file::read_guard(self.rt, self.path)
+    }
+
+    fn guard_age(&self) -> Option<u64> {
+        guard_file::guard_age(self.rt, self.path)
+    }
+
+    fn unguarded(&self) -> Result<(), Ending> {
+        guard_file::unguarded(self.rt, self.path)
     }
 
     fn put_guard(&mut self, guard: &Guard) -> io::Result<()> {
@@ -160,16 +178,16 @@ impl<R: Files<File = File> + Clock + Print + Eprint + AllocGlobal> Folder for Sy
         Ok(fs::read_dir(&self.rt, self.path)?.next().is_none())
     }
 
-    fn lies_in(&mut self, path: &str) -> io::Result<bool> {
+    fn lies_in(&mut self, outer: &str) -> io::Result<bool> {
         let own = fs::canonicalize(self.rt, self.path)?;
-        match fs::canonicalize(self.rt, path) {
+        match fs::canonicalize(self.rt, outer) {
             Ok(other) => Ok(own.as_str() != other.as_str() && own.starts_with(other.as_str())),
             Err(_) => Ok(false),
         }
     }
 
     fn length(&mut self, file: WorldFile) -> io::Result<u64> {
-        Ok(fs::metadata(self.rt, self.path_of(file)?.as_path())?.len())
+        Ok(fs::metadata(self.rt, self.file_path(file)?.as_path())?.len())
     }
 
     fn lock_state(&mut self, file: WorldFile) -> io::Result<LockState> {
@@ -184,7 +202,7 @@ impl<R: Files<File = File> + Clock + Print + Eprint + AllocGlobal> Folder for Sy
         Ok(state.unwrap_or(LockState::Unknown))
     }
 
-    fn pause(&mut self) {
+    fn pause(&self) {
         thread::sleep(self.rt, Duration::from_millis(PAUSE_MILLISECONDS));
     }
 }

@@ -6,7 +6,7 @@ use Rattle.std.proofs.lemmas.Bool.Decides.{nat_tests}
 use Rattle.file_format.specs.declared.slot.Slot.{Slot}
 use Rattle.file_format.specs.declared.slot.Slot.TheVariants.{A, B}
 use Rattle.file_format.specs.contracts.slot.SlotPartialEq.TheImpl as slot
-use Rattle.world_folder.specs.declared.look.Look.{Look}
+use Rattle.world_folder.specs.declared.heads.Summary.{Summary}
 
 both : (a b : Bool) → (a && b) ≡ true → (a ≡ true) × (b ≡ true)
 both true b is = (refl, is)
@@ -34,7 +34,7 @@ same_place x y is =
     let tick = same_number x.1 y.1 parts.1 in
     λ i. (file i, tick i)
 
-pub alike : (x y : Look)
+pub alike : (x y : Summary)
     → (option_eq (λ (s t : Slot × ℕ). slot.ghosts.eq s.0 t.0 && (s.1 == t.1)) x.newest y.newest
     && (option_eq (λ (m n : ℕ). m == n) x.log_a y.log_a && option_eq (λ (m n : ℕ). m == n) x.log_b y.log_b)) ≡ true
     → x ≡ y

@@ -2,6 +2,7 @@
 use Rattle.std.specs.Prelude.{◌≡◌, ℕ, nat_lt, if◌then◌else◌, List, [], ◌∷◌}
 use Rattle.std.specs.Prelude.{Option, Some, None}
 use Rattle.disk_model.specs.Disk.{Only}
+use Rattle.disk_model.specs.declared.disk.Disk.{Ghosts}
 use Rattle.disk_model.specs.declared.four_files.FourFiles.{FourFiles}
 use Rattle.file_format.specs.declared.gate.TheConstants.{CLOSED_GATE}
 use Rattle.file_format.specs.declared.slot.Slot.{Slot}
@@ -15,12 +16,10 @@ use Rattle.disk_model.specs.declared.world_file.WorldFile.{WorldFile}
 use Rattle.disk_model.specs.declared.world_file.WorldFile.TheVariants.{ImageA, ImageB, LogA, LogB}
 use Rattle.world_folder.specs.Fault.{Files}
 use Rattle.world_folder.specs.declared.lost.Checks.{Checks}
-use Rattle.world_folder.specs.declared.lost.OnLoss.{OnLoss}
-use Rattle.world_folder.specs.declared.lost.OnLoss.TheVariants.{Warn}
 use Rattle.world_reports.specs.Looking.{IsWorldSeen}
 use Rattle.world_reports.specs.Reports.{NamesFailed, with_finding}
 use Rattle.world_reports.specs.declared.looking.SeenWorld.{SeenWorld}
-use Rattle.world_folder.specs.History.{Act, Made, FoundEmpty, FoundOutside, GuardRead, GuardPut}
+use Rattle.world_folder.specs.History.{Act, Made, FoundEmpty, FoundOutside, GuardPut}
 use Rattle.world_folder.specs.History.{Printed, Warned, synced}
 use Rattle.world_reports.specs.Texts.{backed_up_text, begun_text}
 use Rattle.world_reports.specs.Verified.{IsVerified}
@@ -48,14 +47,14 @@ IsWithoutOlder B files copied =
     (copied.image_a.items ≡ shut_older files.image_a.items) × (copied.image_b ≡ files.image_b)
     × (copied.log_a ≡ files.log_a) × (copied.log_b ≡ files.log_b)
 
-module _ {D : Type 0} (content : D → List ℕ) (leaves : D → List ℕ → Type 0) where
+module _ {D : Type 0} (disk : Ghosts D) where
   -- a file was made under its name, and has these bytes, which are durable
-  pub record IsWritten (file : WorldFile) (bytes : List ℕ) (disk : D)
+  pub record IsWritten (file : WorldFile) (bytes : List ℕ) (written : D)
       (before after : List Act) : Type 0 where
     pub entry : Entry
     pub made : after ≡ Made file entry ∷ before
-    pub has : content disk ≡ bytes
-    pub durable : Only (content disk) (leaves disk)
+    pub has : disk.content written ≡ bytes
+    pub durable : Only (disk.content written) (disk.may_leave written)
 
   -- both images were written, the newest one last
   abbrev pub AreImagesWritten : (newest : Slot) → Files → (image_a image_b : D)
@@ -108,12 +107,3 @@ module _ {D : Type 0} (content : D → List ℕ) (leaves : D → List ℕ → Ty
     pub is_seen : IsWorldSeen checks world source_before source_after
     pub is_room : room ≡ FoundEmpty ∷ FoundOutside path ∷ before
     pub copy : IsCopyMade world checks.guard made ending room after
-
-  -- the guard of a world was read, and then the world was copied with this guard
-  pub record IsBackedUpWithGuard (on_loss : OnLoss) (path : List ℕ) (made : FourFiles D)
-      (ending : Ending) (source_before source_after before after : List Act) : Type 0 where
-    pub guard : Option Guard
-    pub acts : List Act
-    pub guard_is : acts ≡ GuardRead guard ∷ source_before
-    pub copy : IsBackedUp (record { lost = on_loss; older = Warn; guard = guard }) path made ending
-        acts source_after before after

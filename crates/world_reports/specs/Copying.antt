@@ -8,7 +8,7 @@ use Rattle.action_log.specs.Extent.{HasNoGroups, IsExtent}
 use Rattle.world_reports.specs.declared.copying.NotCopied.{NotCopied}
 use Rattle.world_reports.specs.declared.copying.NotCopied.TheVariants.{NoImage, Unsteady}
 use Rattle.world_reports.specs.declared.copying.NotCopied.TheVariants.{Unreadable}
-use Rattle.world_folder.specs.declared.look.TheConstants.{IMAGE_HEAD, SEGMENT_HEAD}
+use Rattle.world_folder.specs.declared.heads.TheConstants.{IMAGE_HEAD, SEGMENT_HEAD}
 use Rattle.disk_model.specs.declared.world_file.WorldFile.{WorldFile}
 use Rattle.disk_model.specs.declared.world_file.WorldFile.TheVariants.{ImageA, ImageB, LogA, LogB}
 use Rattle.world_folder.specs.Ending.{IsFault}

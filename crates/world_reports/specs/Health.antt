@@ -51,7 +51,8 @@ health_ending NotServed = ending.Unwell unwell.NotServed
 health_ending Unknown = ending.Unwell unwell.NotServed
 health_ending (Hangs seconds) = ending.Unwell unwell.Hangs
 
--- the same of a command that would end so otherwise: a world that may be older comes first
+-- how a command ends that found a world of this health, and would end so otherwise: a world that
+-- may be older comes first
 abbrev pub ending_with : Reported → Ending → Ending
 ending_with health Ran = health_ending health
 ending_with health other = other

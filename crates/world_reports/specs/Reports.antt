@@ -1,13 +1,25 @@
 -- The reports that commands print.
 use Rattle.std.specs.Prelude.{◌≡◌, ℕ, List, ◌∷◌, Option, Some, None}
 use Rattle.world_folder.specs.Ending.{ending_of}
-use Rattle.world_folder.specs.History.{Act, Printed, Warned}
+use Rattle.world_folder.specs.History.{Act, GuardRead, Printed, Warned}
 use Rattle.world_folder.specs.Texts.{finding_line, recovered_line}
 use Rattle.world_folder.specs.declared.ending.Ending.{Ending}
 use Rattle.world_folder.specs.declared.lost.Finding.{Finding}
 use Rattle.world_folder.specs.declared.lost.Checks.{Checks}
+use Rattle.world_folder.specs.declared.lost.OnLoss.{OnLoss}
+use Rattle.world_folder.specs.declared.lost.OnLoss.TheVariants.{Warn}
 use Rattle.world_reports.specs.Looking.{IsWorldSeen}
 use Rattle.world_reports.specs.declared.looking.SeenWorld.{SeenWorld}
+
+-- The guard of a world was read, and then a command used its files by these checks. They don't
+-- refuse a world that is older than its guard.
+pub record IsGuardRead (on_loss : OnLoss) (IsUsed : Checks → (before after : List Act) → Type 0)
+    (before after : List Act) : Type 0 where
+  pub checks : Checks
+  pub acts : List Act
+  pub named : (checks.lost ≡ on_loss) × (checks.older ≡ Warn)
+  pub guard_is : acts ≡ GuardRead checks.guard ∷ before
+  pub used : IsUsed checks acts after
 
 -- what is found of four files is named on standard error
 abbrev pub with_finding : Option Finding → List Act → List Act

@@ -3,8 +3,9 @@ use Rattle.std.specs.Prelude.{◌≡◌, ℕ, List, [], ◌∷◌, ◌++◌, cod
 use Rattle.std.specs.Prelude.{Vec, Option, None, Some, if◌then◌else◌}
 use Rattle.std.specs.declared.alloc.Global.{Global}
 use Rattle.std.specs.declared.io.Error.{Error}
+use Rattle.disk_model.specs.declared.disk.Disk.{Ghosts}
 use Rattle.disk_model.specs.declared.four_files.FourFiles.{FourFiles}
-use Rattle.disk_model.specs.FourFiles.{EachFile}
+use Rattle.disk_model.specs.FourFiles.{EachFile, mapped}
 use Rattle.file_format.specs.declared.slot.Slot.TheVariants.{A}
 use Rattle.recovery.specs.Recovered.{recovery_of_answer}
 use Rattle.recovery.specs.Recovery.{Recovers}
@@ -13,7 +14,8 @@ use Rattle.salvage.specs.Salvage.{IsSalvaged}
 use Rattle.salvage.specs.declared.salvaged.Salvaged.{Salvaged}
 use Rattle.world_reports.specs.Backup.{AreWritten}
 use Rattle.world_folder.specs.Fault.{Files}
-use Rattle.world_folder.specs.History.{Act, FoundEmpty, FoundOutside, Printed, AreInTurn}
+use Rattle.world_folder.specs.History.{Act, FoundEmpty, FoundOutside, GuardRead, Printed}
+use Rattle.world_folder.specs.History.{AreInTurn}
 use Rattle.world_folder.specs.Lost.{older_finding}
 use Rattle.world_folder.specs.declared.ending.Ending.{Ending}
 use Rattle.world_folder.specs.declared.ending.Ending.TheVariants.{MayBeOlder}
@@ -32,24 +34,14 @@ use Rattle.disk_model.specs.declared.world_file.WorldFile.{WorldFile}
 
 -- which files can't be read
 abbrev pub lost_of : FourFiles TwoTries → FourFiles Bool
-lost_of read = record {
-  image_a = is_err read.image_a.value;
-  image_b = is_err read.image_b.value;
-  log_a = is_err read.log_a.value;
-  log_b = is_err read.log_b.value;
-}
+lost_of read = mapped (λ tries. is_err tries.value) read
 
 -- the error of a first try, if the second one succeeded
 abbrev pub failed_once : TwoTries → Option Error
 failed_once tries = if is_err tries.value then None else tries.failed
 
 abbrev pub failed_of : FourFiles TwoTries → FourFiles (Option Error)
-failed_of read = record {
-  image_a = failed_once read.image_a;
-  image_b = failed_once read.image_b;
-  log_a = failed_once read.log_a;
-  log_b = failed_once read.log_b;
-}
+failed_of read = mapped failed_once read
 
 -- each such file was named on standard error, image.a first
 abbrev pub AreFailedNamed : FourFiles (Option Error) → (before after : List Act) → Type 0
@@ -69,14 +61,9 @@ NamesLost (Err error) before after = (text : List ℕ) × (after ≡ Printed tex
 -- the bytes of four files were taken, image.a first, and a line was printed for each lost one
 pub record AreTakenOf (read : FourFiles TwoTries) (files : Files)
     (before after : List Act) : Type 0 where
-  pub with_image_a : List Act
-  pub with_image_b : List Act
-  pub with_log_a : List Act
   pub bytes : EachFile read files (λ tries bytes. AreBytesOf tries.value bytes)
-  pub image_a : NamesLost read.image_a.value before with_image_a
-  pub image_b : NamesLost read.image_b.value with_image_a with_image_b
-  pub log_a : NamesLost read.log_a.value with_image_b with_log_a
-  pub log_b : NamesLost read.log_b.value with_log_a after
+  pub named : AreInTurn (λ (file : WorldFile) (tries : TwoTries). NamesLost tries.value)
+      read before after
 
 -- what is taken of each file was printed, by its own name
 abbrev pub parts_printed : Salvaged → List Act → List Act
@@ -104,8 +91,8 @@ ending_after (Some older) dropped = MayBeOlder
 -- read again, and recovery finds in them the world that was salvaged. Only then the files were
 -- named that a second try could read, and a world that is older than its guard. Then it was
 -- printed, and of which files something was dropped. The command ends by both.
-pub record IsMadeOf {D : Type 0} (content : D → List ℕ) (leaves : D → List ℕ → Type 0)
-    (guard : Option Guard) (read : FourFiles TwoTries) (made : FourFiles D) (ending : Ending)
+pub record IsMadeOf {D : Type 0} (disk : Ghosts D) (guard : Option Guard)
+    (read : FourFiles TwoTries) (made : FourFiles D) (ending : Ending)
     (before after : List Act) : Type 0 where
   pub files : Files
   pub salvaged : Salvaged
@@ -118,7 +105,7 @@ pub record IsMadeOf {D : Type 0} (content : D → List ℕ) (leaves : D → List
   pub named : List Act
   pub are_taken : AreTakenOf read files before taken
   pub is_salvaged : IsSalvagedOf files salvaged
-  pub are_written : AreWritten content leaves A bytes made (parts_printed salvaged taken) written
+  pub are_written : AreWritten disk A bytes made (parts_printed salvaged taken) written
   pub is_verified : IsVerified salvaged.found reported written verified
   pub failed : AreFailedNamed (failed_of read) verified named
   pub dropped_is : dropped ≡ dropped_of (lost_of read) files salvaged
@@ -127,13 +114,16 @@ pub record IsMadeOf {D : Type 0} (content : D → List ℕ) (leaves : D → List
       ∷ with_finding (older_finding guard salvaged.found.tick) named
   pub ends : ending ≡ ending_after (older_finding guard salvaged.found.tick) dropped
 
--- The files of a folder were read, each by its own name. A world was made of them in an empty
--- folder outside the world's own.
-pub record IsSalvagedInto {D : Type 0} (content : D → List ℕ) (leaves : D → List ℕ → Type 0)
-    (path : List ℕ) (guard : Option Guard) (made : FourFiles D) (ending : Ending)
+-- The guard of a world was read, and then its files, each by its own name. A world was made of them
+-- in an empty folder outside the world's own.
+pub record IsSalvagedInto {D : Type 0} (disk : Ghosts D) (path : List ℕ)
+    (made : FourFiles D) (ending : Ending)
     (source_before source_after before after : List Act) : Type 0 where
+  pub guard : Option Guard
+  pub acts : List Act
+  pub guard_is : acts ≡ GuardRead guard ∷ source_before
   pub read : FourFiles TwoTries
   pub room : List Act
-  pub read_in : AreTried read source_before source_after
+  pub read_in : AreTried read acts source_after
   pub is_room : room ≡ FoundEmpty ∷ FoundOutside path ∷ before
-  pub is_made : IsMadeOf content leaves guard read made ending room after
+  pub is_made : IsMadeOf disk guard read made ending room after

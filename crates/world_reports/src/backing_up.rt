@@ -1,115 +1,69 @@
-ghost use Rattle.std.specs.Prelude.{◌≡◌, ◌∷◌, [], Some, IsTrue, IfOk, IfErr, OnOk};
+ghost use Rattle.std.specs.Prelude.{◌≡◌, ◌∷◌, [], Ok, Some, IsTrue, IfOk, IfErr, OnOk, OnErr};
+ghost use Rattle.std.specs.Prelude.{IsErr};
 ghost use Rattle.disk_model.specs.Disk.{Only};
 ghost use Rattle.world_folder.specs.Left.{Leaves};
 ghost use Rattle.world_reports.specs.Backup.{IsBackedUp, IsCopyMade, IsWritten, AreWritten};
 ghost use Rattle.world_reports.specs.Backup.{AreImagesWritten, IsWithoutOlder, shut_older};
-ghost use Rattle.world_reports.specs.Backup.{with_its_guard, with_tries, IsBackedUpWithGuard};
+ghost use Rattle.world_reports.specs.Backup.{with_its_guard, with_tries};
+ghost use Rattle.world_reports.specs.Reports.{IsGuardRead};
 ghost use Rattle.world_folder.specs.Ending.{IsDone, IsFault, NamesFile};
 ghost use Rattle.world_folder.specs.History.{FoundEmpty, FoundOutside};
 ghost use Rattle.world_reports.specs.Texts.{begun_text};
 
 use crate::looking::{SeenWorld, look_for_world};
 use crate::recovering::{warn_of, warn_of_failed};
-use crate::taking_back::taken_back;
+use crate::taking_back::take_back;
 use crate::verified::{BackedUp, verify};
 use disk_model::{Disk, FourFiles, WorldFile};
 use file_format::CLOSED_GATE;
 use recovery::Slot;
-use std::alloc::Global;
-use std::fs::{File, Files};
-use std::time::Clock;
+use std::path::PathBuf;
 use std::{fmt, io};
 use world_actions::Refusal;
 use world_folder::{
-    Checks, Ending, Filled, Folder, GUARD, Guard, Inside, OnLoss, Reading, SystemFolder, answered,
-    opened, path_of, sync_names,
+    Ending, Filled, Folder, GUARD, Guard, Inside, OnLoss, Reading, blame, checks_in, explain,
+    sync_names,
 };
 
-/// Copies the world of a folder of the system into an empty one, as `copy_with_guard` does.
-pub fn back_up<R: Files<File = File> + Clock + Print + Eprint + AllocGlobal>(
-    rt: &R,
-    folder: &str,
-    to: &str,
-    on_loss: OnLoss,
-) -> Result<Ending, Ending>
-    ensures done { IfOk result IsDone }
-    ensures fault { IfErr result IsFault }
-{
-    let mut from = SystemFolder::new(rt, folder);
-    let mut into = SystemFolder::new(rt, to);
-    let (_, ending) = copy_with_guard(rt.alloc(), &mut from, folder, &mut into, to, on_loss)?;
-    Ok(ending)
-}
-
-/// Copies the world of a folder into an empty one with its guard, as `copy_into` does. The guard is
-/// read before the copy is begun. So the copy has all ticks up to it, unless the world hasn't.
-pub fn copy_with_guard<F: Folder, T: Folder>(
-    alloc: Global,
-    from: &mut F,
-    path: &str,
-    into: &mut T,
-    to: &str,
-    on_loss: OnLoss,
-) -> Result<(FourFiles<T::File>, Ending), Ending>
-    ensures backed_up { IsTrue F.honest → IsTrue F.File.honest → IsTrue T.honest
-        → IsTrue T.File.honest → IfOk result (λ done.
-        IsBackedUpWithGuard T.File.content T.File.may_leave on_loss path.now done.0 done.1
-        (F.history from.old) (F.history from.new) (T.history into.old) (T.history into.new)) }
-    ensures done { IfOk result (λ done. IsDone done.1) }
-    ensures fault { IfErr result IsFault }
-{
-    let guard = from.read_guard()?;
-    let checks = Checks {
-        lost: on_loss,
-        older: OnLoss::Warn,
-        guard,
-    };
-    let copied = copy_into(alloc, from, path, into, to, checks)?;
-    Ok(copied)
-}
-
 /// Copies the world of a folder into an empty one, and prints which world the copy holds. A server
-/// may write the world meanwhile. The copy's image is written last, so a copy that was cut off
-/// holds no world; the older one is closed in it. The copy has to recover to the world that was
-/// read, and gets its guard at last. If it fails, the files that it made are removed, or named. On
-/// standard error it names what was lost of the source. The copy's files are returned, and how the
-/// command ends.
-pub fn copy_into<F: Folder, T: Folder>(
-    alloc: Global,
+/// may write the world meanwhile. The guard is read first, so the copy has all ticks up to it,
+/// unless the world hasn't. The copy's image is written last, so a copy that was cut off holds no
+/// world; the older one is closed in it. The copy has to recover to the world that was read, and
+/// gets its guard at last. If it fails, the files that it made are removed, or named. On standard
+/// error it names what was lost of the source. The copy's files are returned, and how the command
+/// ends.
+pub fn back_up<F: Folder, T: Folder>(
     from: &mut F,
-    path: &str,
     into: &mut T,
-    to: &str,
-    checks: Checks,
+    on_loss: OnLoss,
 ) -> Result<(FourFiles<T::File>, Ending), Ending>
     ensures backed_up { IsTrue F.honest → IsTrue F.File.honest → IsTrue T.honest
-        → IsTrue T.File.honest → IfOk result (λ done.
-        IsBackedUp T.File.content T.File.may_leave checks path.now done.0 done.1
-        (F.history from.old) (F.history from.new) (T.history into.old) (T.history into.new)) }
+        → IsTrue T.File.honest → IfOk result (λ done. IsGuardRead on_loss
+        (λ checks before after. IsBackedUp T.File.Disk checks (F.path from.old)
+        done.0 done.1 before after (T.history into.old) (T.history into.new))
+        (F.history from.old) (F.history from.new)) }
     ensures done { IfOk result (λ done. IsDone done.1) }
     ensures fault { IfErr result IsFault }
 {
-    look_for_room(alloc, path, into, to)?;
-    let seen = look_for_world(alloc, from, path, Reading::Cached, checks)?;
+    let checks = checks_in(from, on_loss)?;
+    look_for_room(from.path(), into)?;
+    let seen = look_for_world(from, Reading::Cached, checks)?;
     let mut made = FourFiles::each(false);
-    match copy_seen(alloc, into, to, seen, checks.guard, &mut made) {
+    match copy_seen(into, seen, checks.guard, &mut made) {
         Ok(done) => Ok(done),
-        Err(ending) => Err(taken_back(alloc, into, to, made, ending)),
+        Err(ending) => Err(take_back(into, made, ending)),
     }
 }
 
 // Makes a copy of a world that was seen, with this guard, and reports it.
 fn copy_seen<T: Folder>(
-    alloc: Global,
     into: &mut T,
-    to: &str,
     seen: SeenWorld,
     guard: Option<Guard>,
     made: &mut FourFiles<bool>,
 ) -> Result<(FourFiles<T::File>, Ending), Ending>
     ensures copied { IsTrue T.honest → IsTrue T.File.honest → IfOk result (λ done.
-        IsCopyMade T.File.content T.File.may_leave seen guard done.0 done.1 (T.history into.old)
-        (T.history into.new)) }
+        IsCopyMade T.File.Disk seen guard done.0 done.1 (T.history into.old) (T.history into.new)) }
     ensures done { IfOk result (λ done. IsDone done.1) }
     ensures fault { IfErr result IsFault }
 {
@@ -121,23 +75,18 @@ fn copy_seen<T: Folder>(
         found,
     } = seen;
     let copied = without_older(files, found.world.slot);
-    let files = write_files(alloc, into, to, &copied, found.world.slot, made)?;
-    let verified = verify(alloc, into, to, &found.world)?;
+    let files = write_files(into, &copied, found.world.slot, made)?;
+    let verified = verify(into, &found.world)?;
     warn_of_failed(into, failed)?;
     warn_of(into, found.finding)?;
     warn_of_tries(into, tries)?;
     into.print(BackedUp(verified))?;
-    copy_guard(alloc, into, to, guard)?;
+    copy_guard(into, guard)?;
     Ok((files, Ending::of_finding(found.finding)))
 }
 
 // Gives a copy the guard of its world, if it has one.
-fn copy_guard<T: Folder>(
-    alloc: Global,
-    into: &mut T,
-    to: &str,
-    guard: Option<Guard>,
-) -> Result<(), Ending>
+fn copy_guard<T: Folder>(into: &mut T, guard: Option<Guard>) -> Result<(), Ending>
     ensures put { IsTrue T.honest
         → OnOk result (T.history into.new ≡ with_its_guard guard (T.history into.old)) }
     ensures fault { IfErr result IsFault }
@@ -146,7 +95,7 @@ fn copy_guard<T: Folder>(
         return Ok(());
     };
     let put = into.put_guard(&guard);
-    opened(alloc, to, GUARD, put)
+    into.blame(GUARD, put)
 }
 
 // The files with the older image closed. An empty file stays one.
@@ -183,67 +132,51 @@ fn warn_of_tries<F: Folder>(into: &mut F, tries: u32) -> io::Result<()>
 }
 
 /// Refuses a folder that lies in the world's own at this path, or that has a file.
-pub fn look_for_room<F: Folder>(
-    alloc: Global,
-    path: &str,
-    into: &mut F,
-    to: &str,
-) -> Result<(), Ending>
+pub fn look_for_room<F: Folder>(path: &str, into: &mut F) -> Result<(), Ending>
     ensures room { IsTrue F.honest → OnOk result
         (F.history into.new ≡ FoundEmpty ∷ FoundOutside path.now ∷ F.history into.old) }
     ensures fault { IfErr result IsFault }
 {
     let lies_in = into.lies_in(path);
-    if opened(alloc, "", to, lies_in)? {
-        return Err(inside(alloc, to));
+    if blame_folder(into, lies_in)? {
+        let path = PathBuf::from_str(into.alloc(), into.path())?;
+        return Err(Ending::Inside(Inside { path }));
     }
     let is_empty = into.is_empty();
-    if opened(alloc, "", to, is_empty)? {
-        Ok(())
-    } else {
-        Err(filled(alloc, to))
+    if !blame_folder(into, is_empty)? {
+        let path = PathBuf::from_str(into.alloc(), into.path())?;
+        return Err(Ending::Filled(Filled { path }));
     }
+    Ok(())
 }
 
-fn filled(alloc: Global, to: &str) -> Ending
-    ensures { IsFault result }
+// The answer of a call on a folder. After an error the program ends, and names the folder.
+fn blame_folder<F: Folder, T>(into: &F, answer: io::Result<T>) -> Result<T, Ending>
+    ensures ok { IfOk answer (λ value. result ≡ Ok value) }
+    ensures fails { OnErr answer (IsErr result) }
+    ensures fault { IfErr result IsFault }
 {
-    match path_of(alloc, "", to) {
-        Ok(path) => Ending::Filled(Filled { path }),
-        Err(_) => Ending::Fault(Refusal::NoMemory),
-    }
-}
-
-fn inside(alloc: Global, to: &str) -> Ending
-    ensures { IsFault result }
-{
-    match path_of(alloc, "", to) {
-        Ok(path) => Ending::Inside(Inside { path }),
-        Err(_) => Ending::Fault(Refusal::NoMemory),
-    }
+    blame(into.alloc(), "", into.path(), answer)
 }
 
 /// Makes the files of a world, that of the newest image last, and syncs each of them
 /// and their names.
 pub fn write_files<F: Folder>(
-    alloc: Global,
     into: &mut F,
-    to: &str,
     files: &FourFiles<Vec<u8>>,
     newest: Slot,
     made: &mut FourFiles<bool>,
 ) -> Result<FourFiles<F::File>, Ending>
     ensures written { IsTrue F.honest → IsTrue F.File.honest → IfOk result (λ written.
-        AreWritten F.File.content F.File.may_leave newest files.now written
-        (F.history into.old) (F.history into.new)) }
+        AreWritten F.File.Disk newest files.now written (F.history into.old) (F.history into.new)) }
     ensures left { IsTrue F.honest
         → Leaves made.old (F.history into.old) → Leaves made.new (F.history into.new) }
     ensures fault { IfErr result IsFault }
 {
-    let log_a = write_one(alloc, into, to, WorldFile::LogA, &files.log_a, made)?;
-    let log_b = write_one(alloc, into, to, WorldFile::LogB, &files.log_b, made)?;
-    let (image_a, image_b) = write_images(alloc, into, to, files, newest, made)?;
-    sync_names(alloc, into, to)?;
+    let log_a = write_one(into, WorldFile::LogA, &files.log_a, made)?;
+    let log_b = write_one(into, WorldFile::LogB, &files.log_b, made)?;
+    let (image_a, image_b) = write_images(into, files, newest, made)?;
+    sync_names(into)?;
     Ok(FourFiles {
         image_a,
         image_b,
@@ -254,15 +187,13 @@ pub fn write_files<F: Folder>(
 
 // Makes both images, the newest one last.
 fn write_images<F: Folder>(
-    alloc: Global,
     into: &mut F,
-    to: &str,
     files: &FourFiles<Vec<u8>>,
     newest: Slot,
     made: &mut FourFiles<bool>,
 ) -> Result<(F::File, F::File), Ending>
     ensures written { IsTrue F.honest → IsTrue F.File.honest → IfOk result (λ made.
-        AreImagesWritten F.File.content F.File.may_leave newest files.now made.0 made.1
+        AreImagesWritten F.File.Disk newest files.now made.0 made.1
         (F.history into.old) (F.history into.new)) }
     ensures left { IsTrue F.honest
         → Leaves made.old (F.history into.old) → Leaves made.new (F.history into.new) }
@@ -270,13 +201,13 @@ fn write_images<F: Folder>(
 {
     match newest {
         Slot::A => {
-            let image_b = write_one(alloc, into, to, WorldFile::ImageB, &files.image_b, made)?;
-            let image_a = write_one(alloc, into, to, WorldFile::ImageA, &files.image_a, made)?;
+            let image_b = write_one(into, WorldFile::ImageB, &files.image_b, made)?;
+            let image_a = write_one(into, WorldFile::ImageA, &files.image_a, made)?;
             Ok((image_a, image_b))
         }
         Slot::B => {
-            let image_a = write_one(alloc, into, to, WorldFile::ImageA, &files.image_a, made)?;
-            let image_b = write_one(alloc, into, to, WorldFile::ImageB, &files.image_b, made)?;
+            let image_a = write_one(into, WorldFile::ImageA, &files.image_a, made)?;
+            let image_b = write_one(into, WorldFile::ImageB, &files.image_b, made)?;
             Ok((image_a, image_b))
         }
     }
@@ -285,23 +216,20 @@ fn write_images<F: Folder>(
 /// Makes a file of a folder with these bytes, and makes them durable. It notes that the file was
 /// made, also if it fails afterwards.
 pub fn write_one<F: Folder>(
-    alloc: Global,
     into: &mut F,
-    to: &str,
     file: WorldFile,
     bytes: &[u8],
     made: &mut FourFiles<bool>,
 ) -> Result<F::File, Ending>
     ensures written { IsTrue F.honest → IsTrue F.File.honest → IfOk result (λ disk.
-        IsWritten F.File.content F.File.may_leave file bytes.now disk
-        (F.history into.old) (F.history into.new)) }
+        IsWritten F.File.Disk file bytes.now disk (F.history into.old) (F.history into.new)) }
     ensures left { IsTrue F.honest
         → Leaves made.old (F.history into.old) → Leaves made.new (F.history into.new) }
-    ensures named { IfErr result (NamesFile to.now file) }
+    ensures named { IfErr result (NamesFile (F.path into.old) file) }
     ensures fault { IfErr result IsFault }
 {
     let written = write_file(into, file, bytes, made);
-    opened(alloc, to, file.name(), written)
+    into.blame(file.name(), written)
 }
 
 // Makes a file with these bytes, and makes them durable.
@@ -312,16 +240,16 @@ fn write_file<F: Folder>(
     made: &mut FourFiles<bool>,
 ) -> io::Result<F::File>
     ensures written { IsTrue F.honest → IsTrue F.File.honest → IfOk result (λ disk.
-        IsWritten F.File.content F.File.may_leave file bytes.now disk
-        (F.history into.old) (F.history into.new)) }
+        IsWritten F.File.Disk file bytes.now disk (F.history into.old) (F.history into.new)) }
     ensures left { IsTrue F.honest
         → Leaves made.old (F.history into.old) → Leaves made.new (F.history into.new) }
+    ensures path { F.path into.new ≡ F.path into.old }
 {
     let handle = into.make(file)?;
     made.set(file, true);
     let mut disk = into.take(handle)?;
     let written = write_bytes(&mut disk, bytes);
-    answered(&mut disk, written)?;
+    explain(&mut disk, written)?;
     Ok(disk)
 }
 

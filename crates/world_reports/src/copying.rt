@@ -9,9 +9,8 @@ ghost use Rattle.world_reports.specs.Tried.{IsTriedOf};
 
 use crate::looks::{Alike, Before};
 use disk_model::{FourFiles, WorldFile};
-use std::alloc::Global;
 use std::io;
-use world_folder::{Ending, Folder, Reading, WorldDisk, ending_for, opened};
+use world_folder::{Ending, Folder, Reading, ending_for};
 
 /// How often a copy is begun anew.
 const TRIES: u32 = 1_000;
@@ -43,45 +42,28 @@ pub enum NotCopied {
     Unreadable(Ending),
 }
 
-/// The files of a world at a path, open to be read.
-#[derive(Drop)]
-pub struct Source<'a, D> {
-    pub path: &'a str,
-    pub files: FourFiles<D>,
-}
-
-/// Copies the files of the folder at this path, opened so. It takes no lock, and a server may write
-/// them meanwhile.
-pub fn copy_world<F: Folder>(
-    alloc: Global,
-    folder: &mut F,
-    path: &str,
-    how: Reading,
-) -> Result<Copied, NotCopied>
+/// Copies the files of a folder, opened so. It takes no lock, and a server may write them
+/// meanwhile.
+pub fn copy_world<F: Folder>(folder: &mut F, how: Reading) -> Result<Copied, NotCopied>
     ensures copied { IsTrue F.honest → IsTrue F.File.honest → IfOk result (λ copied.
         IsCopied copied.files copied.lengths (F.history folder.old) (F.history folder.new)) }
     ensures not { IfErr result IsNotCopied }
 {
-    match open_source(alloc, folder, path, how) {
-        Ok(mut source) => copy_from(alloc, folder, &mut source),
+    match open_each(folder, how) {
+        Ok(mut files) => copy_from(folder, &mut files),
         Err(ending) => Err(NotCopied::Unreadable(ending)),
     }
 }
 
 // Tries to copy the files, again and again.
-fn copy_from<F: Folder>(
-    alloc: Global,
-    folder: &mut F,
-    source: &mut Source<'_, F::File>,
-) -> Result<Copied, NotCopied>
+fn copy_from<F: Folder>(folder: &F, files: &mut FourFiles<F::File>) -> Result<Copied, NotCopied>
     ensures copied { IsTrue F.File.honest → IfOk result (λ copied.
-        IsCopyOf (mapped F.File.content source.old.files) copied.files copied.lengths) }
-    ensures history { IsTrue F.honest → F.history folder.new ≡ F.history folder.old }
+        IsCopyOf (mapped F.File.content files.old) copied.files copied.lengths) }
     ensures not { IfErr result IsNotCopied }
 {
     let mut blanks = 0;
     for number in 1..=TRIES {
-        match try_copy(alloc, source) {
+        match try_copy(folder, files) {
             Ok(Tried::Copied(alike)) => {
                 let (files, lengths) = alike.parts();
                 return Ok(Copied {
@@ -99,44 +81,33 @@ fn copy_from<F: Folder>(
         }
         folder.pause();
     }
-    let ending = ending_for(alloc, "", source.path, io::Error::other(UNSTEADY));
+    let unsteady = io::Error::other(UNSTEADY);
+    let ending = ending_for(folder.alloc(), "", folder.path(), unsteady);
     Err(NotCopied::Unsteady(ending))
 }
 
-fn open_source<'a, F: Folder>(
-    alloc: Global,
-    folder: &mut F,
-    path: &'a str,
-    how: Reading,
-) -> Result<Source<'a, F::File>, Ending>
+fn open_each<F: Folder>(folder: &mut F, how: Reading) -> Result<FourFiles<F::File>, Ending>
     ensures opened { IsTrue F.honest
-        → IfOk result (λ source. F.history folder.new ≡ reads
-        (mapped F.File.content source.files) (F.history folder.old)) }
+        → IfOk result (λ files. F.history folder.new ≡ reads
+        (mapped F.File.content files) (F.history folder.old)) }
     ensures fault { IfErr result IsFault }
 {
-    let files = FourFiles {
-        image_a: open_one(alloc, folder, path, WorldFile::ImageA, how)?,
-        image_b: open_one(alloc, folder, path, WorldFile::ImageB, how)?,
-        log_a: open_one(alloc, folder, path, WorldFile::LogA, how)?,
-        log_b: open_one(alloc, folder, path, WorldFile::LogB, how)?,
-    };
-    Ok(Source { path, files })
+    Ok(FourFiles {
+        image_a: open_one(folder, WorldFile::ImageA, how)?,
+        image_b: open_one(folder, WorldFile::ImageB, how)?,
+        log_a: open_one(folder, WorldFile::LogA, how)?,
+        log_b: open_one(folder, WorldFile::LogB, how)?,
+    })
 }
 
-fn open_one<F: Folder>(
-    alloc: Global,
-    folder: &mut F,
-    path: &str,
-    file: WorldFile,
-    how: Reading,
-) -> Result<F::File, Ending>
+fn open_one<F: Folder>(folder: &mut F, file: WorldFile, how: Reading) -> Result<F::File, Ending>
     ensures opened { IsTrue F.honest → IfOk result
         (λ disk. F.history folder.new ≡ Read file (F.File.content disk) ∷ F.history folder.old) }
-    ensures named { IfErr result (NamesFile path.now file) }
+    ensures named { IfErr result (NamesFile (F.path folder.old) file) }
     ensures fault { IfErr result IsFault }
 {
     let disk = folder.open_to_read(file, how);
-    opened(alloc, path, file.name(), disk)
+    folder.blame(file.name(), disk)
 }
 
 // The result of a try.
@@ -150,18 +121,17 @@ enum Tried {
 }
 
 // Copies images and the log between two looks at all heads. The copied files are looked at too.
-fn try_copy<D: WorldDisk>(alloc: Global, source: &mut Source<'_, D>) -> Result<Tried, Ending>
-    ensures copied { IsTrue D.honest → IfOk result (IsTriedOf D.content source.old.files) }
-    ensures kept { IsTrue D.honest
-        → IfOk result (λ _.
-        mapped D.content source.new.files ≡ mapped D.content source.old.files) }
+fn try_copy<F: Folder>(folder: &F, files: &mut FourFiles<F::File>) -> Result<Tried, Ending>
+    ensures copied { IsTrue F.File.honest → IfOk result (IsTriedOf F.File.content files.old) }
+    ensures kept { IsTrue F.File.honest
+        → IfOk result (λ _. mapped F.File.content files.new ≡ mapped F.File.content files.old) }
     ensures fault { IfErr result IsFault }
 {
-    let Some(before) = Before::look(alloc, source)? else {
+    let Some(before) = Before::look(folder, files)? else {
         return Ok(Tried::NoImage);
     };
-    let within = before.read(alloc, source)?;
-    let after = within.look_again(alloc, source)?;
+    let within = before.read(folder, files)?;
+    let after = within.look_again(folder, files)?;
     match Alike::of(within, after) {
         Some(alike) => Ok(Tried::Copied(alike)),
         None => Ok(Tried::Unsteady),

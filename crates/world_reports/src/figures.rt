@@ -15,14 +15,10 @@ use crate::served::{ServerReport, server_in};
 use action_log::{SEGMENT_TICKS, judge_log};
 use disk_model::{FourFiles, IMAGE_A, IMAGE_B, LOG_A, LOG_B};
 use recovery::{Recovered, Slot};
-use std::alloc::Global;
 use std::fmt;
-use std::fs::{File, Files};
-use std::time::Clock;
 use world_actions::Refusal;
 use world_folder::{
-    Checks, Ending, Folder, FoundReport, Guard, OnLoss, Reading, SystemFolder, WorldReport,
-    checks_in, guard_age,
+    Checks, Ending, Folder, FoundReport, Guard, OnLoss, Reading, WorldReport, checks_in,
 };
 
 /// Figures of a world.
@@ -75,11 +71,10 @@ fn opened_segment(bytes: &[u8]) -> Option<(u64, usize)>
     }
 }
 
-/// Prints the figures of the world in a folder of the system, as `report_status` does. If it also
-/// checks the world, it prints whether the world is well, and ends by that.
-pub fn status<R: Files<File = File> + Clock + Print + Eprint + AllocGlobal>(
-    rt: &R,
-    folder: &str,
+/// Prints the figures of the world in a folder, as `report_status` does. If it also checks the
+/// world, it prints whether the world is well, and ends by that.
+pub fn status<F: Folder>(
+    folder: &mut F,
     on_loss: OnLoss,
     checks_health: bool,
 ) -> Result<Ending, Ending>
@@ -87,30 +82,27 @@ pub fn status<R: Files<File = File> + Clock + Print + Eprint + AllocGlobal>(
     ensures checked { IfOk result IsChecked }
     ensures fault { IfErr result IsFault }
 {
-    let mut system = SystemFolder::new(rt, folder);
-    match checks_in(rt, folder, on_loss) {
+    match checks_in(folder, on_loss) {
         Ok(checks) => {
-            let (ending, server) = report_status(rt.alloc(), &mut system, folder, checks)?;
+            let (ending, server) = report_status(folder, checks)?;
             if !checks_health {
                 return Ok(ending);
             }
-            let health = health_of(server, guard_age(rt, folder));
-            report_health(&mut system, health, ending)
+            let age = folder.guard_age();
+            report_health(folder, health_of(server, age), ending)
         }
         Err(ending) => {
-            print_server(&mut system)?;
+            print_server(folder)?;
             Err(ending)
         }
     }
 }
 
-/// Prints the figures of the world in the folder at this path, which a server may write meanwhile,
-/// and then whether one does. On standard error it names what was lost. If the files hold no world,
-/// only the last line is printed. It returns how the command ends, and what is known of the server.
+/// Prints the figures of the world in a folder, which a server may write meanwhile, and then
+/// whether one does. On standard error it names what was lost. If the files hold no world, only the
+/// last line is printed. It returns how the command ends, and what is known of the server.
 pub fn report_status<F: Folder>(
-    alloc: Global,
     folder: &mut F,
-    path: &str,
     checks: Checks,
 ) -> Result<(Ending, ServerReport), Ending>
     ensures reported { IsTrue F.honest → IsTrue F.File.honest → IfOk result (λ reported.
@@ -119,7 +111,7 @@ pub fn report_status<F: Folder>(
     ensures done { IfOk result (λ reported. IsDone reported.0) }
     ensures fault { IfErr result IsFault }
 {
-    let printed = print_figures(alloc, folder, path, checks);
+    let printed = print_figures(folder, checks);
     let server = print_server(folder)?;
     Ok((printed?, server))
 }
@@ -134,18 +126,13 @@ fn print_server<F: Folder>(folder: &mut F) -> Result<ServerReport, Ending>
     Ok(reported)
 }
 
-fn print_figures<F: Folder>(
-    alloc: Global,
-    folder: &mut F,
-    path: &str,
-    checks: Checks,
-) -> Result<Ending, Ending>
+fn print_figures<F: Folder>(folder: &mut F, checks: Checks) -> Result<Ending, Ending>
     ensures reported { IsTrue F.honest → IsTrue F.File.honest → IfOk result (λ ending.
         AreFiguresReported checks ending (F.history folder.old) (F.history folder.new)) }
     ensures done { IfOk result IsDone }
     ensures fault { IfErr result IsFault }
 {
-    let seen = look_for_world(alloc, folder, path, Reading::Cached, checks)?;
+    let seen = look_for_world(folder, Reading::Cached, checks)?;
     warn_of_failed(folder, seen.failed)?;
     warn_of(folder, seen.found.finding)?;
     folder.print(figures_of(&seen.found.world, &seen.files))?;

@@ -2,6 +2,7 @@ ghost use Rattle.std.specs.Prelude.{◌≡◌, Some, IsTrue, IfOk, IfErr, OnOk, 
 ghost use Rattle.world_folder.specs.Ending.{IsDone, IsFault};
 ghost use Rattle.world_reports.specs.Inspection.{IsLineOf, IsFileReport, IsInspected, words_text};
 ghost use Rattle.world_reports.specs.Inspection.{AreFilesReported, file_line_text, words_printed};
+ghost use Rattle.world_reports.specs.Reports.{IsGuardRead};
 
 use crate::counted::Counted;
 use crate::file_reports::{FileReport, report_image, report_log};
@@ -10,60 +11,37 @@ use crate::recovering::{warn_of, warn_of_failed};
 use disk_model::{FourFiles, WorldFile};
 use recovery::Recovered;
 use std::alloc::{AllocError, Global};
-use std::fs::{File, Files};
-use std::time::Clock;
 use std::{fmt, io};
 use world_actions::Refusal;
-use world_folder::{Checks, Ending, Folder, FoundReport, OnLoss, Reading, SystemFolder, checks_in};
+use world_folder::{Ending, Folder, FoundReport, OnLoss, Reading, checks_in};
 
-/// Prints how each file of a folder of the system reads, and which world they hold, as
-/// `report_files` does.
-pub fn inspect<R: Files<File = File> + Clock + Print + Eprint + AllocGlobal>(
-    rt: &R,
-    folder: &str,
+/// Prints how each file of a folder reads, and then which world they hold, with its words if they
+/// are asked for. On standard error it names what was lost. A server may write the world meanwhile.
+/// This writes nothing into the folder. It returns how the command ends.
+pub fn inspect<F: Folder>(
+    folder: &mut F,
     with_words: bool,
     on_loss: OnLoss,
 ) -> Result<Ending, Ending>
-    ensures done { IfOk result IsDone }
-    ensures fault { IfErr result IsFault }
-{
-    let checks = checks_in(rt, folder, on_loss)?;
-    let mut system = SystemFolder::new(rt, folder);
-    report_files(rt.alloc(), &mut system, folder, with_words, checks)
-}
-
-/// Prints how each file of the folder at this path reads, and then which world they hold, with
-/// its words if they are asked for. On standard error it names what was lost. A server may write
-/// the world meanwhile. This writes nothing into the folder. It returns how the command ends.
-pub fn report_files<F: Folder>(
-    alloc: Global,
-    folder: &mut F,
-    path: &str,
-    with_words: bool,
-    checks: Checks,
-) -> Result<Ending, Ending>
     ensures reported { IsTrue F.honest → IsTrue F.File.honest → IfOk result (λ ending.
-        IsInspected with_words checks ending (F.history folder.old) (F.history folder.new)) }
+        IsGuardRead on_loss (λ checks. IsInspected with_words checks ending)
+        (F.history folder.old) (F.history folder.new)) }
     ensures done { IfOk result IsDone }
     ensures fault { IfErr result IsFault }
 {
-    let seen = look_at_folder(alloc, folder, path, Reading::Synced)?;
-    print_files(alloc, folder, &seen)?;
-    let (_, found) = found_in(alloc, path, seen.files, checks)?;
+    let checks = checks_in(folder, on_loss)?;
+    let seen = look_at_folder(folder, Reading::Synced)?;
+    print_files(folder, &seen)?;
+    let (_, found) = found_in(folder, seen.files, checks)?;
     warn_of_failed(folder, seen.failed)?;
     warn_of(folder, found.finding)?;
     folder.print(FoundReport::of(&found.world))?;
-    print_words(alloc, folder, &found.world, with_words)?;
+    print_words(folder, &found.world, with_words)?;
     Ok(Ending::of_finding(found.finding))
 }
 
 // Prints the words of a world, if they are asked for.
-fn print_words<F: Folder>(
-    alloc: Global,
-    folder: &mut F,
-    found: &Recovered,
-    with_words: bool,
-) -> Result<(), Ending>
+fn print_words<F: Folder>(folder: &mut F, found: &Recovered, with_words: bool) -> Result<(), Ending>
     ensures printed { IsTrue F.honest
         → OnOk result
         (F.history folder.new
@@ -71,18 +49,19 @@ fn print_words<F: Folder>(
     ensures fault { IfErr result IsFault }
 {
     if with_words {
-        let line = line_of(alloc, &found.words)?;
+        let line = line_of(folder.alloc(), &found.words)?;
         folder.print(line)?;
     }
     Ok(())
 }
 
 // Prints how each file reads.
-fn print_files<F: Folder>(alloc: Global, folder: &mut F, seen: &Seen) -> Result<(), Ending>
+fn print_files<F: Folder>(folder: &mut F, seen: &Seen) -> Result<(), Ending>
     ensures printed { IsTrue F.honest
         → OnOk result (AreFilesReported seen.now (F.history folder.old) (F.history folder.new)) }
     ensures fault { IfErr result IsFault }
 {
+    let alloc = folder.alloc();
     let lines = FourFiles {
         image_a: file_line(
             alloc,

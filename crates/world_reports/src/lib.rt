@@ -23,9 +23,9 @@ mod taking_back;
 mod two_tries;
 mod verified;
 
-pub use backing_up::{back_up, copy_into, copy_with_guard};
+pub use backing_up::back_up;
 pub use figures::{Figures, report_status, status};
-pub use inspecting::{inspect, report_files};
-pub use recovering::{recover, report_world};
-pub use salvaging::{salvage_into, salvage_world};
+pub use inspecting::inspect;
+pub use recovering::recover;
+pub use salvaging::salvage_world;
 pub use served::{PartReport, ServerReport};

@@ -8,7 +8,6 @@ ghost use Rattle.disk_model.specs.FourFiles.{EachFile};
 
 use crate::copying::{NotCopied, copy_world};
 use disk_model::{FourFiles, WorldFile};
-use std::alloc::Global;
 use std::io;
 use world_folder::{
     Checks, Ending, Folder, Found, Reading, Unreadable, all_read, read_folder, stands_in,
@@ -39,11 +38,9 @@ pub struct SeenWorld {
     pub found: Found,
 }
 
-/// Looks at the folder at this path for its world, whose losses are named or refused.
+/// Looks at a folder for its world, whose losses are named or refused.
 pub fn look_for_world<F: Folder>(
-    alloc: Global,
     folder: &mut F,
-    path: &str,
     how: Reading,
     checks: Checks,
 ) -> Result<SeenWorld, Ending>
@@ -56,8 +53,8 @@ pub fn look_for_world<F: Folder>(
         lengths,
         tries,
         failed,
-    } = look_at_folder(alloc, folder, path, how)?;
-    let (files, found) = found_in(alloc, path, files, checks)?;
+    } = look_at_folder(folder, how)?;
+    let (files, found) = found_in(folder, files, checks)?;
     Ok(SeenWorld {
         lengths: lengths_known(&lengths, &files),
         files,
@@ -68,9 +65,8 @@ pub fn look_for_world<F: Folder>(
 }
 
 /// The bytes of files that were read so, and the world that they hold, or how the program ends.
-pub fn found_in(
-    alloc: Global,
-    folder: &str,
+pub fn found_in<F: Folder>(
+    folder: &F,
     files: FourFiles<io::Result<Vec<u8>>>,
     checks: Checks,
 ) -> Result<(FourFiles<Vec<u8>>, Found), Ending>
@@ -78,11 +74,11 @@ pub fn found_in(
     ensures found { IfOk result (λ found. Stands found.0 found.1.world) }
     ensures judged { IfOk result (λ found.
         AreJudged checks found.0 found.1.world found.1.finding) }
-    ensures why { IfErr result (ReportsWhy checks folder.now files) }
+    ensures why { IfErr result (ReportsWhy checks (F.path folder.now) files) }
     ensures fault { IfErr result IsFault }
 {
-    let files = all_read(alloc, folder, files)?;
-    match stands_in(alloc, &files, checks) {
+    let files = all_read(folder, files)?;
+    match stands_in(folder.alloc(), &files, checks) {
         Ok(found) => Ok((files, found)),
         Err(fault) => Err(Ending::NoWorld(fault)),
     }
@@ -100,42 +96,37 @@ fn lengths_known(lengths: &FourFiles<Option<u64>>, files: &FourFiles<Vec<u8>>) -
     }
 }
 
-/// Looks at both images and the log of the folder at this path, opened so. If no image is open, or
+/// Looks at both images and the log of a folder, opened so. If no image is open, or
 /// a file can't be read, no server writes a world there, and each file is read by itself. A file
 /// that couldn't be read at first is returned with its error.
-pub fn look_at_folder<F: Folder>(
-    alloc: Global,
-    folder: &mut F,
-    path: &str,
-    how: Reading,
-) -> Result<Seen, Ending>
+pub fn look_at_folder<F: Folder>(folder: &mut F, how: Reading) -> Result<Seen, Ending>
     ensures seen { IsTrue F.honest → IsTrue F.File.honest → IfOk result (λ seen.
         IsSeen seen (F.history folder.old) (F.history folder.new)) }
     ensures fault { IfErr result IsFault }
 {
-    match copy_world(alloc, folder, path, how) {
+    match copy_world(folder, how) {
         Ok(copied) => Ok(Seen {
             files: read_of(copied.files),
-            lengths: known(copied.lengths),
+            lengths: known_lengths(copied.lengths),
             tries: copied.tries,
             failed: None,
         }),
         Err(NotCopied::Unsteady(ending)) => Err(ending),
-        Err(NotCopied::NoImage) => Ok(look_at_each(alloc, folder, None)),
+        Err(NotCopied::NoImage) => Ok(look_at_each(folder, None)),
         Err(NotCopied::Unreadable(Ending::Unreadable(file))) => {
-            Ok(look_at_each(alloc, folder, Some(file)))
+            Ok(look_at_each(folder, Some(file)))
         }
-        Err(NotCopied::Unreadable(_)) => Ok(look_at_each(alloc, folder, None)),
+        Err(NotCopied::Unreadable(_)) => Ok(look_at_each(folder, None)),
     }
 }
 
 // Reads each file by itself, and then asks how long it is.
-fn look_at_each<F: Folder>(alloc: Global, folder: &mut F, failed: Option<Unreadable>) -> Seen
+fn look_at_each<F: Folder>(folder: &mut F, failed: Option<Unreadable>) -> Seen
     ensures seen { IsTrue F.honest → IsTrue F.File.honest
         → AreReadAndMeasured result (F.history folder.old) (F.history folder.new) }
     ensures failed { result.failed ≡ failed }
 {
-    let files = read_folder(alloc, folder);
+    let files = read_folder(folder);
     let lengths = lengths_in(folder);
     Seen {
         files,
@@ -152,7 +143,7 @@ fn read_of(files: FourFiles<Vec<u8>>) -> FourFiles<io::Result<Vec<u8>>>
     files.map(|bytes| Ok(bytes))
 }
 
-fn known(lengths: FourFiles<u64>) -> FourFiles<Option<u64>>
+fn known_lengths(lengths: FourFiles<u64>) -> FourFiles<Option<u64>>
     ensures { EachFile lengths result (λ length known. known ≡ Some length) }
 {
     lengths.map(|length| Some(length))

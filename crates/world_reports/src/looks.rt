@@ -5,16 +5,13 @@ ghost use Rattle.world_reports.specs.Copying.{IsCutShort, IsReadWhole, AreParts}
 ghost use Rattle.world_reports.specs.Copying.{IsPart, head_of};
 ghost use Rattle.disk_model.specs.FourFiles.{mapped};
 ghost use Rattle.world_folder.specs.Ending.{IsFault, NamesFile};
-ghost use Rattle.world_folder.specs.Look.{look_of};
+ghost use Rattle.world_folder.specs.Heads.{summary_of};
 ghost use Rattle.world_reports.specs.Looks.{AreLookedAlike};
 
-use crate::copying::Source;
 use action_log::{SEGMENT_BYTES_MAX, extent_of};
-use disk_model::{FourFiles, WorldFile};
-use std::alloc::Global;
+use disk_model::{Disk, FourFiles, WorldFile};
 use world_folder::{
-    Ending, IMAGE_HEAD, Look, SEGMENT_HEAD, WorldDisk, answered, look_at, opened, read_head,
-    read_whole,
+    Ending, Folder, IMAGE_HEAD, SEGMENT_HEAD, Summary, explain, read_head, read_whole, summary_of,
 };
 
 /// The heads of four files, of which one image is open.
@@ -48,46 +45,44 @@ pub struct Alike {
 
 impl Before {
     /// Looks at the heads of four files. Without an open image there is nothing to copy.
-    pub fn look<D: WorldDisk>(
-        alloc: Global,
-        source: &mut Source<'_, D>,
+    pub fn look<F: Folder>(
+        folder: &F,
+        files: &mut FourFiles<F::File>,
     ) -> Result<Option<Self>, Ending>
-        ensures heads { IsTrue D.honest → IfOk result (λ found. IfSome found (λ before.
-            AreParts false (mapped D.content source.old.files) before.heads)) }
-        ensures kept { IsTrue D.honest
-            → IfOk result (λ _.
-            mapped D.content source.new.files ≡ mapped D.content source.old.files) }
+        ensures heads { IsTrue F.File.honest → IfOk result (λ found. IfSome found (λ before.
+            AreParts false (mapped F.File.content files.old) before.heads)) }
+        ensures kept { IsTrue F.File.honest
+            → IfOk result (λ _. mapped F.File.content files.new ≡ mapped F.File.content files.old) }
         ensures fault { IfErr result IsFault }
     {
-        let heads = read_files(alloc, source, false)?;
-        match look_at(&heads).newest {
+        let heads = read_files(folder, files, false)?;
+        match summary_of(&heads).newest {
             Some(_) => Ok(Some(Before { heads })),
             None => Ok(None),
         }
     }
 
     /// Reads the bytes of the files.
-    pub fn read<D: WorldDisk>(
+    pub fn read<F: Folder>(
         self,
-        alloc: Global,
-        source: &mut Source<'_, D>,
+        folder: &F,
+        files: &mut FourFiles<F::File>,
     ) -> Result<Within, Ending>
         ensures before { IfOk result (λ within. within.before ≡ self) }
-        ensures files { IsTrue D.honest → IfOk result (λ within.
-            AreParts true (mapped D.content source.old.files) within.files) }
-        ensures lengths { IsTrue D.honest
+        ensures files { IsTrue F.File.honest → IfOk result (λ within.
+            AreParts true (mapped F.File.content files.old) within.files) }
+        ensures lengths { IsTrue F.File.honest
             → IfOk result (λ within.
-            within.lengths ≡ mapped length (mapped D.content source.old.files)) }
-        ensures kept { IsTrue D.honest
-            → IfOk result (λ _.
-            mapped D.content source.new.files ≡ mapped D.content source.old.files) }
+            within.lengths ≡ mapped length (mapped F.File.content files.old)) }
+        ensures kept { IsTrue F.File.honest
+            → IfOk result (λ _. mapped F.File.content files.new ≡ mapped F.File.content files.old) }
         ensures fault { IfErr result IsFault }
     {
-        let files = read_files(alloc, source, true)?;
-        let lengths = lengths_of(alloc, source)?;
+        let bytes = read_files(folder, files, true)?;
+        let lengths = lengths_of(folder, files)?;
         Ok(Within {
             before: self,
-            files,
+            files: bytes,
             lengths,
         })
     }
@@ -95,19 +90,18 @@ impl Before {
 
 impl Within {
     /// Looks at the heads of the files again.
-    pub fn look_again<D: WorldDisk>(
+    pub fn look_again<F: Folder>(
         &self,
-        alloc: Global,
-        source: &mut Source<'_, D>,
+        folder: &F,
+        files: &mut FourFiles<F::File>,
     ) -> Result<After, Ending>
-        ensures heads { IsTrue D.honest → IfOk result (λ after.
-            AreParts false (mapped D.content source.old.files) after.heads) }
-        ensures kept { IsTrue D.honest
-            → IfOk result (λ _.
-            mapped D.content source.new.files ≡ mapped D.content source.old.files) }
+        ensures heads { IsTrue F.File.honest → IfOk result (λ after.
+            AreParts false (mapped F.File.content files.old) after.heads) }
+        ensures kept { IsTrue F.File.honest
+            → IfOk result (λ _. mapped F.File.content files.new ≡ mapped F.File.content files.old) }
         ensures fault { IfErr result IsFault }
     {
-        let heads = read_files(alloc, source, false)?;
+        let heads = read_files(folder, files, false)?;
         Ok(After { heads })
     }
 }
@@ -125,7 +119,8 @@ impl Alike {
             files,
             lengths,
         } = within;
-        if !are_alike(look_at(&heads), look_at(&files), look_at(&after.heads))
+        let copied = summary_of(&files);
+        if !are_alike(summary_of(&heads), copied, summary_of(&after.heads))
             || is_cut_short(&files.log_a, lengths.log_a)
             || is_cut_short(&files.log_b, lengths.log_b)
             || !same_images(&heads, &after.heads)
@@ -167,55 +162,51 @@ fn same_images(before: &FourFiles<Vec<u8>>, after: &FourFiles<Vec<u8>>) -> bool
     before.image_a == after.image_a && before.image_b == after.image_b
 }
 
-fn are_alike(before: Look, within: Look, after: Look) -> bool
+fn are_alike(before: Summary, within: Summary, after: Summary) -> bool
     ensures { result ≡ true → (before ≡ within) × (after ≡ within) }
 {
     before == within && after == within
 }
 
 // Each file, or its head.
-fn read_files<D: WorldDisk>(
-    alloc: Global,
-    source: &mut Source<'_, D>,
+fn read_files<F: Folder>(
+    folder: &F,
+    files: &mut FourFiles<F::File>,
     whole: bool,
 ) -> Result<FourFiles<Vec<u8>>, Ending>
-    ensures parts { IsTrue D.honest → IfOk result
-        (AreParts whole (mapped D.content source.old.files)) }
-    ensures kept { IsTrue D.honest
-        → IfOk result (λ _.
-        mapped D.content source.new.files ≡ mapped D.content source.old.files) }
+    ensures parts { IsTrue F.File.honest → IfOk result
+        (AreParts whole (mapped F.File.content files.old)) }
+    ensures kept { IsTrue F.File.honest
+        → IfOk result (λ _. mapped F.File.content files.new ≡ mapped F.File.content files.old) }
     ensures fault { IfErr result IsFault }
 {
-    let path = source.path;
-    let files = &mut source.files;
     Ok(FourFiles {
-        image_a: read_one(alloc, path, WorldFile::ImageA, &mut files.image_a, whole)?,
-        image_b: read_one(alloc, path, WorldFile::ImageB, &mut files.image_b, whole)?,
-        log_a: read_one(alloc, path, WorldFile::LogA, &mut files.log_a, whole)?,
-        log_b: read_one(alloc, path, WorldFile::LogB, &mut files.log_b, whole)?,
+        image_a: read_one(folder, WorldFile::ImageA, &mut files.image_a, whole)?,
+        image_b: read_one(folder, WorldFile::ImageB, &mut files.image_b, whole)?,
+        log_a: read_one(folder, WorldFile::LogA, &mut files.log_a, whole)?,
+        log_b: read_one(folder, WorldFile::LogB, &mut files.log_b, whole)?,
     })
 }
 
-fn read_one<D: WorldDisk>(
-    alloc: Global,
-    path: &str,
+fn read_one<F: Folder>(
+    folder: &F,
     file: WorldFile,
-    disk: &mut D,
+    disk: &mut F::File,
     whole: bool,
 ) -> Result<Vec<u8>, Ending>
-    ensures part { IsTrue D.honest
-        → IfOk result (λ bytes. IsPart file whole (D.content disk.old) bytes.items) }
-    ensures kept { IsTrue D.honest → IfOk result (λ _. D.content disk.new ≡ D.content disk.old) }
-    ensures named { IfErr result (NamesFile path.now file) }
+    ensures part { IsTrue F.File.honest
+        → IfOk result (λ bytes. IsPart file whole (F.File.content disk.old) bytes.items) }
+    ensures kept { IsTrue F.File.honest
+        → IfOk result (λ _. F.File.content disk.new ≡ F.File.content disk.old) }
+    ensures named { IfErr result (NamesFile (F.path folder.now) file) }
     ensures fault { IfErr result IsFault }
 {
     let bytes = if whole {
-        read_whole(alloc, file, disk)
+        read_whole(folder.alloc(), file, disk)
     } else {
-        read_head(alloc, disk, head_of(file))
+        read_head(folder.alloc(), disk, head_of(file))
     };
-    let answer = answered(disk, bytes);
-    opened(alloc, path, file.name(), answer)
+    folder.blame(file.name(), explain(disk, bytes))
 }
 
 // How many bytes of a file are looked at.
@@ -229,38 +220,32 @@ fn head_of(file: WorldFile) -> usize
 }
 
 // How long each file is.
-fn lengths_of<D: WorldDisk>(
-    alloc: Global,
-    source: &mut Source<'_, D>,
+fn lengths_of<F: Folder>(
+    folder: &F,
+    files: &mut FourFiles<F::File>,
 ) -> Result<FourFiles<u64>, Ending>
-    ensures lengths { IsTrue D.honest → IfOk result (λ lengths.
-        lengths ≡ mapped length (mapped D.content source.old.files)) }
-    ensures kept { IsTrue D.honest
-        → IfOk result (λ _.
-        mapped D.content source.new.files ≡ mapped D.content source.old.files) }
+    ensures lengths { IsTrue F.File.honest → IfOk result (λ lengths.
+        lengths ≡ mapped length (mapped F.File.content files.old)) }
+    ensures kept { IsTrue F.File.honest
+        → IfOk result (λ _. mapped F.File.content files.new ≡ mapped F.File.content files.old) }
     ensures fault { IfErr result IsFault }
 {
-    let path = source.path;
     Ok(FourFiles {
-        image_a: length_of(alloc, path, WorldFile::ImageA, &mut source.files.image_a)?,
-        image_b: length_of(alloc, path, WorldFile::ImageB, &mut source.files.image_b)?,
-        log_a: length_of(alloc, path, WorldFile::LogA, &mut source.files.log_a)?,
-        log_b: length_of(alloc, path, WorldFile::LogB, &mut source.files.log_b)?,
+        image_a: length_of(folder, WorldFile::ImageA, &mut files.image_a)?,
+        image_b: length_of(folder, WorldFile::ImageB, &mut files.image_b)?,
+        log_a: length_of(folder, WorldFile::LogA, &mut files.log_a)?,
+        log_b: length_of(folder, WorldFile::LogB, &mut files.log_b)?,
     })
 }
 
-fn length_of<D: WorldDisk>(
-    alloc: Global,
-    path: &str,
-    file: WorldFile,
-    disk: &mut D,
-) -> Result<u64, Ending>
-    ensures length { IsTrue D.honest → IfOk result (λ size. size ≡ length (D.content disk.old)) }
-    ensures kept { IsTrue D.honest → IfOk result (λ _. D.content disk.new ≡ D.content disk.old) }
-    ensures named { IfErr result (NamesFile path.now file) }
+fn length_of<F: Folder>(folder: &F, file: WorldFile, disk: &mut F::File) -> Result<u64, Ending>
+    ensures length { IsTrue F.File.honest
+        → IfOk result (λ size. size ≡ length (F.File.content disk.old)) }
+    ensures kept { IsTrue F.File.honest
+        → IfOk result (λ _. F.File.content disk.new ≡ F.File.content disk.old) }
+    ensures named { IfErr result (NamesFile (F.path folder.now) file) }
     ensures fault { IfErr result IsFault }
 {
     let size = disk.len();
-    let answer = answered(disk, size);
-    opened(alloc, path, file.name(), answer)
+    folder.blame(file.name(), explain(disk, size))
 }

@@ -1,51 +1,27 @@
 ghost use Rattle.std.specs.Prelude.{◌≡◌, Some, IsTrue, IfOk, IfErr, OnOk};
 ghost use Rattle.world_folder.specs.Ending.{IsDone, IsFault};
 ghost use Rattle.world_folder.specs.Texts.{finding_line, recovered_line};
-ghost use Rattle.world_reports.specs.Reports.{IsWorldReported, NamesFailed, with_finding};
+ghost use Rattle.world_reports.specs.Reports.{IsGuardRead, IsWorldReported, NamesFailed};
+ghost use Rattle.world_reports.specs.Reports.{with_finding};
 
 use crate::looking::look_for_world;
-use std::alloc::Global;
-use std::fs::{self, File};
-use std::time::Clock;
 use std::{fmt, io};
 use world_folder::{
-    Checks, Ending, Finding, Folder, OnLoss, Reading, Reason, SystemFolder, Unreadable,
-    WorldReport, checks_in,
+    Ending, Finding, Folder, OnLoss, Reading, Reason, Unreadable, WorldReport, checks_in,
 };
 
-/// Prints which world the files of a folder of the system hold, as `report_world` does.
-pub fn recover<R: fs::Files<File = File> + Clock + Print + Eprint + AllocGlobal>(
-    rt: &R,
-    folder: &str,
-    on_loss: OnLoss,
-) -> Result<Ending, Ending>
-    ensures done { IfOk result IsDone }
-    ensures fault { IfErr result IsFault }
-{
-    let checks = checks_in(rt, folder, on_loss)?;
-    report_world(
-        rt.alloc(),
-        &mut SystemFolder::new(rt, folder),
-        folder,
-        checks,
-    )
-}
-
-/// Prints which world the files of the folder at this path hold, which a server may write
-/// meanwhile. It writes nothing into the folder. On standard error it names what was lost. It
-/// returns how the command ends.
-pub fn report_world<F: Folder>(
-    alloc: Global,
-    folder: &mut F,
-    path: &str,
-    checks: Checks,
-) -> Result<Ending, Ending>
+/// Prints which world the files of a folder hold, which a server may write meanwhile. It writes
+/// nothing into the folder. On standard error it names what was lost. It returns how the command
+/// ends.
+pub fn recover<F: Folder>(folder: &mut F, on_loss: OnLoss) -> Result<Ending, Ending>
     ensures reported { IsTrue F.honest → IsTrue F.File.honest → IfOk result (λ ending.
-        IsWorldReported checks ending (F.history folder.old) (F.history folder.new)) }
+        IsGuardRead on_loss (λ checks. IsWorldReported checks ending)
+        (F.history folder.old) (F.history folder.new)) }
     ensures done { IfOk result IsDone }
     ensures fault { IfErr result IsFault }
 {
-    let seen = look_for_world(alloc, folder, path, Reading::Synced, checks)?;
+    let checks = checks_in(folder, on_loss)?;
+    let seen = look_for_world(folder, Reading::Synced, checks)?;
     warn_of_failed(folder, seen.failed)?;
     warn_of(folder, seen.found.finding)?;
     folder.print(RecoveredLine(WorldReport::of(&seen.found.world)))?;

@@ -14,7 +14,7 @@ use crate::backing_up::{look_for_room, write_files};
 use crate::counted::Counted;
 use crate::dropped::Dropped;
 use crate::recovering::{warn_of, warn_of_failed};
-use crate::taking_back::taken_back;
+use crate::taking_back::take_back;
 use crate::two_tries::{TwoTries, is_lost, try_folder};
 use crate::verified::{SalvagedInto, verify};
 use disk_model::{FourFiles, WorldFile};
@@ -23,87 +23,59 @@ use image_files::image_body;
 use recovery::{Recovered, Slot};
 use salvage::{ImagePart, LogPart, Salvaged, salvage};
 use std::alloc::{AllocError, Global};
-use std::fs::{File, Files};
-use std::time::Clock;
 use std::{fmt, io};
 use world_actions::Refusal;
-use world_folder::{
-    Ending, Fault, Finding, Folder, Guard, SystemFolder, Unreadable, older_finding, opened,
-    path_of, read_guard,
-};
-
-/// Makes a world in an empty folder of the system of what can be read of the files of another one,
-/// as `salvage_into` does.
-pub fn salvage_world<R: Files<File = File> + Clock + Print + Eprint + AllocGlobal>(
-    rt: &R,
-    folder: &str,
-    to: &str,
-) -> Result<Ending, Ending>
-    ensures done { IfOk result IsDone }
-    ensures fault { IfErr result IsFault }
-{
-    let mut from = SystemFolder::new(rt, folder);
-    let mut into = SystemFolder::new(rt, to);
-    let guard = read_guard(rt, folder)?;
-    let (_, ending) = salvage_into(rt.alloc(), &mut from, folder, &mut into, to, guard)?;
-    Ok(ending)
-}
+use world_folder::{Ending, Finding, Folder, Guard, Unreadable, WorldFault, older_finding};
 
 /// Makes a world in an empty folder of what can be read of the files of another one, in which
 /// nothing is written. It prints what it took of each file, which world the new files hold, and of
 /// which files something was dropped. It makes its image, beside closed files. These files are
 /// returned, and how the command ends: the world may be older if something was dropped, and is if
 /// its guard says so. If it fails, the files that it made are removed, or named.
-pub fn salvage_into<F: Folder, T: Folder>(
-    alloc: Global,
+pub fn salvage_world<F: Folder, T: Folder>(
     from: &mut F,
-    path: &str,
     into: &mut T,
-    to: &str,
-    guard: Option<Guard>,
 ) -> Result<(FourFiles<T::File>, Ending), Ending>
     ensures salvaged { IsTrue F.honest → IsTrue F.File.honest → IsTrue T.honest
         → IsTrue T.File.honest → IfOk result (λ done.
-        IsSalvagedInto T.File.content T.File.may_leave path.now guard done.0 done.1
+        IsSalvagedInto T.File.Disk (F.path from.old) done.0 done.1
         (F.history from.old) (F.history from.new) (T.history into.old) (T.history into.new)) }
     ensures done { IfOk result (λ done. IsDone done.1) }
     ensures fault { IfErr result IsFault }
 {
-    look_for_room(alloc, path, into, to)?;
-    let read = try_folder(alloc, from);
+    let guard = from.read_guard()?;
+    look_for_room(from.path(), into)?;
+    let read = try_folder(from);
     let mut made = FourFiles::each(false);
-    match salvage_read(alloc, path, read, into, to, guard, &mut made) {
+    match salvage_read(from, read, into, guard, &mut made) {
         Ok(done) => Ok(done),
-        Err(ending) => Err(taken_back(alloc, into, to, made, ending)),
+        Err(ending) => Err(take_back(into, made, ending)),
     }
 }
 
-// Makes a world of what could be read of the files of a folder at this path, and reports it.
-fn salvage_read<T: Folder>(
-    alloc: Global,
-    path: &str,
+// Makes a world of what could be read of the files of a folder, and reports it.
+fn salvage_read<F: Folder, T: Folder>(
+    from: &F,
     read: FourFiles<TwoTries>,
     into: &mut T,
-    to: &str,
     guard: Option<Guard>,
     made: &mut FourFiles<bool>,
 ) -> Result<(FourFiles<T::File>, Ending), Ending>
     ensures salvaged { IsTrue T.honest → IsTrue T.File.honest → IfOk result (λ done.
-        IsMadeOf T.File.content T.File.may_leave guard read done.0 done.1 (T.history into.old)
-        (T.history into.new)) }
+        IsMadeOf T.File.Disk guard read done.0 done.1 (T.history into.old) (T.history into.new)) }
     ensures done { IfOk result (λ done. IsDone done.1) }
     ensures fault { IfErr result IsFault }
 {
     let lost = lost_of(&read);
     let failed = failed_of(&read);
-    let taken = readable_in(alloc, path, read, into)?;
-    let salvaged = salvaged_of(alloc, &taken)?;
+    let taken = readable_in(from, read, into)?;
+    let salvaged = salvaged_of(into.alloc(), &taken)?;
     let dropped = Dropped::of(&lost, &taken, &salvaged);
     print_parts(into, &salvaged)?;
-    let bytes = bytes_of(alloc, &salvaged.found)?;
-    let files = write_files(alloc, into, to, &bytes, Slot::A, made)?;
-    let verified = verify(alloc, into, to, &salvaged.found)?;
-    warn_of_each(alloc, path, &failed, into)?;
+    let bytes = bytes_of(into.alloc(), &salvaged.found)?;
+    let files = write_files(into, &bytes, Slot::A, made)?;
+    let verified = verify(into, &salvaged.found)?;
+    warn_of_each(from, &failed, into)?;
     let older = older_finding(guard, salvaged.found.tick);
     warn_of(into, older)?;
     into.print(SalvagedInto(verified))?;
@@ -137,9 +109,8 @@ fn failed_of(read: &FourFiles<TwoTries>) -> FourFiles<Option<io::Error>>
 }
 
 // Names on standard error each file that only a second try could read.
-fn warn_of_each<T: Folder>(
-    alloc: Global,
-    path: &str,
+fn warn_of_each<F: Folder, T: Folder>(
+    from: &F,
     failed: &FourFiles<Option<io::Error>>,
     into: &mut T,
 ) -> Result<(), Ending>
@@ -147,15 +118,14 @@ fn warn_of_each<T: Folder>(
         → OnOk result (AreFailedNamed failed.now (T.history into.old) (T.history into.new)) }
     ensures fault { IfErr result IsFault }
 {
-    warn_of_one(alloc, path, WorldFile::ImageA, failed.image_a, into)?;
-    warn_of_one(alloc, path, WorldFile::ImageB, failed.image_b, into)?;
-    warn_of_one(alloc, path, WorldFile::LogA, failed.log_a, into)?;
-    warn_of_one(alloc, path, WorldFile::LogB, failed.log_b, into)
+    warn_of_one(from, WorldFile::ImageA, failed.image_a, into)?;
+    warn_of_one(from, WorldFile::ImageB, failed.image_b, into)?;
+    warn_of_one(from, WorldFile::LogA, failed.log_a, into)?;
+    warn_of_one(from, WorldFile::LogB, failed.log_b, into)
 }
 
-fn warn_of_one<T: Folder>(
-    alloc: Global,
-    path: &str,
+fn warn_of_one<F: Folder, T: Folder>(
+    from: &F,
     file: WorldFile,
     failed: Option<io::Error>,
     into: &mut T,
@@ -167,15 +137,14 @@ fn warn_of_one<T: Folder>(
     let Some(error) = failed else {
         return Ok(());
     };
-    let path = path_of(alloc, path, file.name())?;
+    let path = from.path_of(file.name())?;
     warn_of_failed(into, Some(Unreadable { path, error }))?;
     Ok(())
 }
 
 // The bytes of the files of a folder that can be read. A file that was lost has none, and is named.
-fn readable_in<T: Folder>(
-    alloc: Global,
-    path: &str,
+fn readable_in<F: Folder, T: Folder>(
+    from: &F,
     read: FourFiles<TwoTries>,
     into: &mut T,
 ) -> Result<FourFiles<Vec<u8>>, Ending>
@@ -190,16 +159,15 @@ fn readable_in<T: Folder>(
         log_b,
     } = read;
     Ok(FourFiles {
-        image_a: readable(alloc, path, WorldFile::ImageA, image_a, into)?,
-        image_b: readable(alloc, path, WorldFile::ImageB, image_b, into)?,
-        log_a: readable(alloc, path, WorldFile::LogA, log_a, into)?,
-        log_b: readable(alloc, path, WorldFile::LogB, log_b, into)?,
+        image_a: readable(from, WorldFile::ImageA, image_a, into)?,
+        image_b: readable(from, WorldFile::ImageB, image_b, into)?,
+        log_a: readable(from, WorldFile::LogA, log_a, into)?,
+        log_b: readable(from, WorldFile::LogB, log_b, into)?,
     })
 }
 
-fn readable<T: Folder>(
-    alloc: Global,
-    path: &str,
+fn readable<F: Folder, T: Folder>(
+    from: &F,
     file: WorldFile,
     read: TwoTries,
     into: &mut T,
@@ -212,9 +180,9 @@ fn readable<T: Folder>(
     match read.value {
         Err(error) if is_lost(&error) => {
             into.print(LostLine(file, error))?;
-            Ok(Vec::new(alloc))
+            Ok(Vec::new(from.alloc()))
         }
-        value => opened(alloc, path, file.name(), value),
+        value => from.blame(file.name(), value),
     }
 }
 
@@ -241,7 +209,7 @@ fn salvaged_of(alloc: Global, files: &FourFiles<Vec<u8>>) -> Result<Salvaged, En
         &files.log_b,
     ) {
         Ok(salvaged) => Ok(salvaged),
-        Err(Refusal::NoImage) => Err(Ending::NoWorld(Fault::NoImage)),
+        Err(Refusal::NoImage) => Err(Ending::NoWorld(WorldFault::NoImage)),
         Err(refusal) => Err(Ending::Fault(refusal)),
     }
 }

@@ -40,7 +40,7 @@ pub struct Locks {
     /// It holds this one from its start to its end, whatever files stand under their names. It is
     /// asked for before the others.
     pub folder: LockState,
-    /// The same one, after the others.
+    /// The folder's lock again, after the others.
     pub folder_still: LockState,
 }
 

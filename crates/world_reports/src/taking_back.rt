@@ -6,20 +6,13 @@ ghost use Rattle.disk_model.specs.FourFiles.{each_of, with_value};
 ghost use Rattle.world_reports.specs.TakingBack.{IsLeftBy, IsTakenBack};
 
 use disk_model::{FourFiles, WorldFile};
-use std::alloc::Global;
 use std::io;
 use world_actions::Refusal;
-use world_folder::{Ending, Folder, Unfinished, Unreadable, Why, path_of};
+use world_folder::{Ending, Folder, Unfinished, Unreadable, Why};
 
 /// How a copy ends that failed after it made these files in a folder. They are removed, so that the
 /// same command can be run again. Those that can't be removed are named.
-pub fn taken_back<F: Folder>(
-    alloc: Global,
-    into: &mut F,
-    to: &str,
-    made: FourFiles<bool>,
-    ending: Ending,
-) -> Ending
+pub fn take_back<F: Folder>(into: &mut F, made: FourFiles<bool>, ending: Ending) -> Ending
     requires { IsFault ending }
     ensures taken_back { IsTrue F.honest → Leaves made (F.history into.old)
         → IsTakenBack ending result (F.history into.new) }
@@ -29,7 +22,7 @@ pub fn taken_back<F: Folder>(
     let unremoved = remove_each(into, &mut left);
     let _ = into.sync_names();
     match unremoved {
-        Some((file, error)) => left_by(alloc, to, left, (file, error), ending),
+        Some((file, error)) => left_by(into, left, (file, error), ending),
         None => ending,
     }
 }
@@ -74,9 +67,8 @@ fn remove_one<F: Folder>(
 }
 
 // How a copy ends of which these files are left.
-fn left_by(
-    alloc: Global,
-    to: &str,
+fn left_by<F: Folder>(
+    into: &F,
     left: FourFiles<bool>,
     unremoved: (WorldFile, io::Error),
     ending: Ending,
@@ -85,24 +77,24 @@ fn left_by(
     ensures fault { IsFault result }
 {
     match ending {
-        Ending::Unreadable(file) => unfinished(left, Why::File(file)),
-        Ending::Fault(Refusal::NoMemory) => unfinished(left, Why::NoMemory),
+        Ending::Unreadable(file) => ending_unfinished(left, Why::File(file)),
+        Ending::Fault(Refusal::NoMemory) => ending_unfinished(left, Why::NoMemory),
         other => {
             drop(other);
-            unfinished(left, why_unremoved(alloc, to, unremoved))
+            ending_unfinished(left, why_unremoved(into, unremoved))
         }
     }
 }
 
-fn unfinished(made: FourFiles<bool>, why: Why) -> Ending
+fn ending_unfinished(made: FourFiles<bool>, why: Why) -> Ending
     ensures { result ≡ Ending.Unfinished (record { made = made; why = why }) }
 {
     Ending::Unfinished(Unfinished { made, why })
 }
 
-fn why_unremoved(alloc: Global, to: &str, unremoved: (WorldFile, io::Error)) -> Why {
+fn why_unremoved<F: Folder>(into: &F, unremoved: (WorldFile, io::Error)) -> Why {
     let (file, error) = unremoved;
-    match path_of(alloc, to, file.name()) {
+    match into.path_of(file.name()) {
         Ok(path) => Why::File(Unreadable { path, error }),
         Err(_) => Why::NoMemory,
     }

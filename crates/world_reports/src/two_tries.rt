@@ -3,7 +3,6 @@ ghost use Rattle.std.specs.Prelude.{◌≡◌, ◌↔◌, IsTrue};
 ghost use Rattle.world_reports.specs.TwoTries.{IsLost, IsTried, IsTriedAgain, AreTried};
 
 use disk_model::{FourFiles, WorldFile};
-use std::alloc::Global;
 use std::io::{self, ErrorKind};
 use world_folder::{Folder, read_file};
 
@@ -33,38 +32,33 @@ impl TwoTries {
 }
 
 /// Reads each file of a folder, as `read_folder` does. One that looks lost is read once more.
-pub fn try_folder<F: Folder>(alloc: Global, folder: &mut F) -> FourFiles<TwoTries>
+pub fn try_folder<F: Folder>(folder: &mut F) -> FourFiles<TwoTries>
     ensures { IsTrue F.honest → IsTrue F.File.honest
         → AreTried result (F.history folder.old) (F.history folder.new) }
 {
     FourFiles {
-        image_a: try_file(alloc, folder, WorldFile::ImageA),
-        image_b: try_file(alloc, folder, WorldFile::ImageB),
-        log_a: try_file(alloc, folder, WorldFile::LogA),
-        log_b: try_file(alloc, folder, WorldFile::LogB),
+        image_a: try_file(folder, WorldFile::ImageA),
+        image_b: try_file(folder, WorldFile::ImageB),
+        log_a: try_file(folder, WorldFile::LogA),
+        log_b: try_file(folder, WorldFile::LogB),
     }
 }
 
-fn try_file<F: Folder>(alloc: Global, folder: &mut F, file: WorldFile) -> TwoTries
+fn try_file<F: Folder>(folder: &mut F, file: WorldFile) -> TwoTries
     ensures { IsTrue F.honest → IsTrue F.File.honest → IsTried file result.failed result.value
         (F.history folder.old) (F.history folder.new) }
 {
-    match read_file(alloc, folder, file) {
+    match read_file(folder, file) {
         Ok(bytes) => TwoTries {
             failed: None,
             value: Ok(bytes),
         },
-        Err(error) => try_again(alloc, folder, file, error),
+        Err(error) => try_again(folder, file, error),
     }
 }
 
 // Reads a file again whose first try failed so, if it looks lost.
-fn try_again<F: Folder>(
-    alloc: Global,
-    folder: &mut F,
-    file: WorldFile,
-    error: io::Error,
-) -> TwoTries
+fn try_again<F: Folder>(folder: &mut F, file: WorldFile, error: io::Error) -> TwoTries
     ensures { IsTrue F.honest → IsTrue F.File.honest
         → IsTriedAgain file error result.failed result.value (F.history folder.old)
         (F.history folder.new) }
@@ -72,7 +66,7 @@ fn try_again<F: Folder>(
     if is_lost(&error) {
         TwoTries {
             failed: Some(error),
-            value: read_file(alloc, folder, file),
+            value: read_file(folder, file),
         }
     } else {
         TwoTries {

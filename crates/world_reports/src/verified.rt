@@ -7,7 +7,6 @@ ghost use Rattle.world_reports.specs.Verified.{IsSameWorld, IsVerified};
 
 use crate::looking::found_in;
 use recovery::Recovered;
-use std::alloc::Global;
 use std::{fmt, io};
 use world_folder::{Checks, Ending, Folder, OnLoss, WorldReport, ending_for, read_folder};
 
@@ -45,23 +44,21 @@ impl fmt::Display for Verified {
     }
 }
 
-/// Recovers the world in the folder at this path, into which this one was written.
-pub fn verify<F: Folder>(
-    alloc: Global,
-    folder: &mut F,
-    path: &str,
-    written: &Recovered,
-) -> Result<Verified, Ending>
+/// Recovers the world in a folder, into which this one was written.
+pub fn verify<F: Folder>(folder: &mut F, written: &Recovered) -> Result<Verified, Ending>
     ensures verified { IsTrue F.honest → IsTrue F.File.honest → IfOk result (λ verified.
         IsVerified written.now verified.world (F.history folder.old) (F.history folder.new)) }
     ensures same { IfOk result (λ verified. verified.world.tick ≡ written.now.tick) }
     ensures fault { IfErr result IsFault }
 {
-    let read = read_folder(alloc, folder);
-    let (_, found) = found_in(alloc, path, read, Checks::of(OnLoss::Warn))?;
+    let read = read_folder(folder);
+    let (_, found) = found_in(folder, read, Checks::of(OnLoss::Warn))?;
     match Verified::of(written, &found.world) {
         Some(verified) => Ok(verified),
-        None => Err(ending_for(alloc, "", path, io::Error::other(OTHER_WORLD))),
+        None => {
+            let other = io::Error::other(OTHER_WORLD);
+            Err(ending_for(folder.alloc(), "", folder.path(), other))
+        }
     }
 }
 

@@ -49,7 +49,7 @@ impl GuardKeeper {
         let guard = self.due(image, seconds_now(rt))?;
         self.tried_at = Instant::now(rt).ok();
         let answer = rt.put_guard(self.folder.as_str(), &guard);
-        self.answered(guard, answer)
+        self.note_answer(guard, answer)
     }
 
     // The guard to be written: it has the greatest acknowledged tick, which is loaded for it, and
@@ -66,7 +66,7 @@ impl GuardKeeper {
     }
 
     // Notes how a write of this guard went. It returns the first error of several.
-    fn answered(&mut self, guard: Guard, answer: io::Result<()>) -> Option<io::Error>
+    fn note_answer(&mut self, guard: Guard, answer: io::Result<()>) -> Option<io::Error>
         ensures written { answer ≡ Ok tt
             → (self.new ≡ record self.old { written = guard; failed = false }) × (result ≡ None) }
         ensures failed { IfErr answer (λ error. (self.new ≡ record self.old { failed = true })

@@ -14,7 +14,7 @@ use std::path::PathBuf;
 use std::sync::atomic::{AtomicBool, Ordering};
 use std::time::Clock;
 use workers::{ImageWriter, Log};
-use world_folder::{Ending, Entry, lock, opened, path_of};
+use world_folder::{Ending, Entry, blame, lock, path_of};
 
 /// A file that a server has open, by its own descriptor.
 #[derive(Drop)]
@@ -29,7 +29,7 @@ impl KeptFile {
         ensures { IfErr result IsFault }
     {
         Ok(KeptFile {
-            file: opened(alloc, folder, file.name(), disk.try_clone_file())?,
+            file: blame(alloc, folder, file.name(), disk.try_clone_file())?,
             path: path_of(alloc, folder, file.name())?,
             is_missed: AtomicBool::new(false),
         })

@@ -26,7 +26,7 @@ use workers::{ImageWriter, Log};
 pub struct Lines<R: Wait + Clock + Net + Copy> {
     pub rt: R,
     /// The server listens there.
-    pub place: Arc<Endpoint, Global>,
+    pub endpoint: Arc<Endpoint, Global>,
     /// The files that it has open.
     pub files: Arc<FourFiles<KeptFile>, Global>,
     pub output: Printer,
@@ -56,7 +56,7 @@ impl<R: Wait + Clock + Net + Copy> Clone for Lines<R> {
     fn clone(&self) -> Result<Self, AllocError> {
         Ok(Lines {
             rt: self.rt,
-            place: self.place.clone()?,
+            endpoint: self.endpoint.clone()?,
             files: self.files.clone()?,
             output: self.output.clone()?,
             errors: self.errors.clone()?,
@@ -84,12 +84,12 @@ impl<R: Wait + Clock + Net + Copy> Lines<R> {
         self.wake();
     }
 
-    // Has the server looked at. A thread that is awake already needs no second call.
+    // Wakes the thread that looks at the server. One that is awake already needs no second call.
     fn wake(&self) {
         let _ = self.wake.try_send(&self.rt, ());
     }
 
-    // Says how much room is left for ticks, and has the server left if it may end by that.
+    // Prints how much room is left for ticks, and leaves the server if it may end by that.
     fn look_at_room(&mut self, since: u64) {
         let images_down = self.standing.are_images_down();
         if let Some(left) = self.room.used(since, images_down) {
@@ -157,7 +157,7 @@ impl<R: Wait + Clock + Net + Copy> Watch<FileDisk> for Lines<R> {
 
 impl<R: Wait + Clock + Net + Copy> Door for Lines<R> {
     fn opened(&mut self) {
-        self.output.print(&self.rt, self.place.listening());
+        self.output.print(&self.rt, self.endpoint.listening());
     }
 
     fn session_refused(&mut self, why: Unserved) {
@@ -179,7 +179,7 @@ impl<R: Wait + Clock + Net + Copy> Door for Lines<R> {
 
     fn closed(&mut self) {
         self.closed_at = Instant::now(&self.rt).ok();
-        self.note(self.place.closed());
+        self.note(self.endpoint.closed());
     }
 
     fn is_left(&self) -> bool {

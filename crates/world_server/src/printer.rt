@@ -18,8 +18,8 @@ const LINES: usize = 256;
 /// for its last line.
 const PATIENCE_SECONDS: u64 = 1;
 
-/// A standard stream.
-pub trait Stream {
+/// A standard stream that prints lines.
+pub trait LineWriter {
     /// Prints a line, which may wait for the stream's reader.
     fn print(&self, line: Line) -> io::Result<()>;
 }
@@ -32,7 +32,7 @@ pub struct StandardError<R: Eprint> {
     pub paths: Paths,
 }
 
-impl<R: Eprint> Stream for StandardError<R> {
+impl<R: Eprint> LineWriter for StandardError<R> {
     fn print(&self, line: Line) -> io::Result<()> {
         let printed = Printed {
             line,
@@ -50,7 +50,7 @@ pub struct StandardOutput<R: Print + Wait> {
     pub errors: Printer,
 }
 
-impl<R: Print + Wait> Stream for StandardOutput<R> {
+impl<R: Print + Wait> LineWriter for StandardOutput<R> {
     fn print(&self, line: Line) -> io::Result<()> {
         let printed = Printed {
             line,
@@ -105,11 +105,10 @@ impl Printer {
 }
 
 /// Starts the thread of a stream. Its outcome comes after the last line.
-pub fn start_printer<R: Threads + Wait + Copy + Send + 'static, S: Stream + Send + Drop + 'static>(
-    rt: &R,
-    alloc: Global,
-    stream: S,
-) -> Result<(Printer, Receiver<io::Result<()>>), NotStarted> {
+pub fn start_printer<
+    R: Threads + Wait + Copy + Send + 'static,
+    S: LineWriter + Send + Drop + 'static,
+>(rt: &R, alloc: Global, stream: S) -> Result<(Printer, Receiver<io::Result<()>>), NotStarted> {
     let (to, lines) = bounded(alloc, LINES)?;
     let (done, outcome) = bounded(alloc, 1)?;
     let Ok(dropped) = Arc::new(alloc, AtomicU64::new(0)) else {
@@ -129,7 +128,7 @@ pub fn start_printer<R: Threads + Wait + Copy + Send + 'static, S: Stream + Send
 
 // Prints each line until the last one, and how many were dropped once there is room. It returns
 // the first failure.
-fn print_lines<R: Wait, S: Stream>(
+fn print_lines<R: Wait, S: LineWriter>(
     rt: &R,
     lines: Receiver<Line>,
     dropped: &AtomicU64,

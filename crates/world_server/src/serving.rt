@@ -18,8 +18,8 @@ use std::sync::Wait;
 use std::time::Clock;
 use world_actions::Refusal;
 use world_folder::{
-    Checks, Ending, Fault, NotRecovered, OnLoss, failure_of, open_existing, read_guard, stands_in,
-    touch_guard,
+    Checks, Ending, Folder, NotRecovered, OnLoss, SystemFolder, WorldFault, failure_of, open_files,
+    stands_in, touch_guard,
 };
 
 /// Serves the world in a folder. It prints which world was recovered, where it listens, and how far
@@ -62,8 +62,9 @@ fn serve_by<
     ensures ok { IfOk result EndsServing }
     ensures err { IfErr result IsFault }
 {
-    let mut files = open_existing(rt, service.folder)?;
-    let guard = read_guard(rt, service.folder)?;
+    let mut folder = SystemFolder::new(rt, service.folder);
+    let mut files = open_files(&mut folder)?;
+    let guard = folder.read_guard()?;
     if guard.is_some() {
         // A start counts as a sign of life.
         let _ = touch_guard(rt, service.folder);
@@ -85,7 +86,7 @@ fn serve_by<
         admission,
         checks,
     );
-    let ending = ending_of(rt.alloc(), service.folder, served);
+    let ending = ending_of(&folder, served);
     Ok(front.finish(ending))
 }
 
@@ -112,10 +113,9 @@ fn valve_logs(alloc: Global, files: &mut FourFiles<FileDisk>) -> Result<Valve, E
 }
 
 // How the program ends after its world was served, or wasn't.
-fn ending_of<M: Method>(
-    alloc: Global,
-    folder: &str,
-    served: Result<Served<M, FileDisk>, WorldFailure<FileDisk>>,
+fn ending_of<M: Method, F: Folder>(
+    folder: &F,
+    served: Result<Served<M, F::File>, WorldFailure<F::File>>,
 ) -> Ending
     requires { IfErr served EndsAsFailed }
     ensures stops { MatchResult served (λ served. StopsWith served.stopped.workers.log_writer.down
@@ -126,50 +126,46 @@ fn ending_of<M: Method>(
 {
     match served {
         Ok(served) => served.ending(),
-        Err(failure) => ending_of_failure(alloc, folder, failure),
+        Err(failure) => ending_of_failure(folder, failure),
     }
 }
 
 // How the program ends if the world isn't served to its end.
-fn ending_of_failure(alloc: Global, folder: &str, failure: WorldFailure<FileDisk>) -> Ending
+fn ending_of_failure<F: Folder>(folder: &F, failure: WorldFailure<F::File>) -> Ending
     requires { EndsAsFailed failure }
     ensures failed { EndsBy failure result }
     ensures ends { EndsServing result }
 {
     match failure {
-        WorldFailure::NotRecovered(files, why) => ending_of_files(alloc, folder, files, why),
-        WorldFailure::NotStarted(_, files, refusal) => not_opened(alloc, folder, files, refusal),
+        WorldFailure::NotRecovered(files, why) => ending_of_files(folder, files, why),
+        WorldFailure::NotStarted(_, files, refusal) => not_opened(folder, files, refusal),
         WorldFailure::NotOpened(_, _files, ending) => ending,
         WorldFailure::NotRun(_, ending) => ending,
     }
 }
 
 // How the program ends if no world is recovered from the files.
-fn ending_of_files(
-    alloc: Global,
-    folder: &str,
-    files: FourFiles<FileDisk>,
-    why: NotRecovered,
-) -> Ending
+fn ending_of_files<F: Folder>(folder: &F, files: FourFiles<F::File>, why: NotRecovered) -> Ending
     ensures { IsFault result }
 {
     match why {
-        NotRecovered::Lost(lost) => Ending::NoWorld(Fault::Lost(lost)),
-        NotRecovered::Refused(refusal) => not_opened(alloc, folder, files, refusal),
+        NotRecovered::Lost(lost) => Ending::NoWorld(WorldFault::Lost(lost)),
+        NotRecovered::Refused(refusal) => not_opened(folder, files, refusal),
     }
 }
 
 // How the program ends if no world was opened: it names the file that is damaged or that failed.
-fn not_opened(alloc: Global, folder: &str, files: FourFiles<FileDisk>, refusal: Refusal) -> Ending
+fn not_opened<F: Folder>(folder: &F, files: FourFiles<F::File>, refusal: Refusal) -> Ending
     ensures { IsFault result }
 {
     let mut files = files;
     match refusal {
-        Refusal::Device => failure_of(alloc, folder, files),
+        Refusal::Device => failure_of(folder, files),
         Refusal::NoImage | Refusal::BadImage | Refusal::BadLog => match read_files(
-            alloc, &mut files,
+            folder.alloc(),
+            &mut files,
         ) {
-            Ok(bytes) => match stands_in(alloc, &bytes, Checks::of(OnLoss::Warn)) {
+            Ok(bytes) => match stands_in(folder.alloc(), &bytes, Checks::of(OnLoss::Warn)) {
                 Ok(_) => Ending::Fault(refusal),
                 Err(fault) => Ending::NoWorld(fault),
             },

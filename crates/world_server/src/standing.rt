@@ -15,7 +15,7 @@ pub struct Losses {
     pub listener: bool,
 }
 
-/// The same as its threads report it.
+/// The parts of a server that are down, as its threads report them.
 #[derive(Drop)]
 pub struct Standing {
     log: AtomicBool,

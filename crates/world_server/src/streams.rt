@@ -5,7 +5,7 @@ ghost use Rattle.world_server.specs.Paths.{ArePathsIn, ArePathsOf};
 ghost use Rattle.world_server.specs.Serving.{EndsServing};
 
 use crate::line::{Line, Paths, Printed};
-use crate::printer::{Printer, StandardError, StandardOutput, Stream, start_printer};
+use crate::printer::{LineWriter, Printer, StandardError, StandardOutput, start_printer};
 use crate::service::{Address, Service};
 use crossbeam_channel::Receiver;
 use disk_model::{FourFiles, IMAGE_A, IMAGE_B, LOG_A, LOG_B};
@@ -68,7 +68,7 @@ impl Streams {
         } = self;
         let printed = output.finish(rt, printed);
         let _ = errors.finish(rt, noted);
-        heard(ending, printed)
+        ending_after_output(ending, printed)
     }
 }
 
@@ -115,7 +115,7 @@ fn note_at_once<R: Eprint + AllocGlobal + Copy>(rt: &R, service: &Service<'_>, l
 }
 
 // How a server ends whose output was printed so.
-fn heard(ending: Ending, printed: io::Result<()>) -> Ending
+fn ending_after_output(ending: Ending, printed: io::Result<()>) -> Ending
     ensures ends { EndsServing ending → EndsServing result }
     ensures other { ending ≢ Ending.Ran → result ≡ ending }
     ensures fault { IsFault ending → IsFault result }

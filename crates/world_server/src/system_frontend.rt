@@ -36,7 +36,7 @@ use worker_steps::Opened;
 use worker_threads::NotStarted;
 use workers::ImageWriter;
 use world_actions::Refusal;
-use world_folder::{Ending, Guard, NoPort, ServerEnding, opened, path_of};
+use world_folder::{Ending, Guard, NoPort, ServerEnding, blame, path_of};
 
 /// For how many seconds the end of the program waits for the last guard.
 const PATIENCE_SECONDS: u64 = 1;
@@ -58,7 +58,7 @@ pub struct SystemFrontend<'a, R: Wait + Clock + Net + Files + Copy> {
     guard: Option<Guard>,
     /// Fails once the thread that writes the guard has ended.
     guarded: Option<Receiver<()>>,
-    place: Option<Arc<Endpoint, Global>>,
+    endpoint: Option<Arc<Endpoint, Global>>,
     /// The pace of the image files.
     pace: Pace,
     /// The valve of the log files.
@@ -90,7 +90,7 @@ impl<
         let Ok(standing) = Arc::new(rt.alloc(), Standing::new()) else {
             return Err(Ending::Fault(Refusal::NoMemory));
         };
-        let (streams, reports, watchdog) = match started(rt, service) {
+        let (streams, reports, watchdog) = match start_threads(rt, service) {
             Ok((streams, reports, watchdog)) => (Some(streams), reports, Some(watchdog)),
             Err(NotStarted::NoThread) => (None, None, None),
             Err(NotStarted::NoMemory) => return Err(Ending::Fault(Refusal::NoMemory)),
@@ -104,7 +104,7 @@ impl<
             watchdog,
             guard,
             guarded: None,
-            place: None,
+            endpoint: None,
             pace,
             valve,
         })
@@ -127,12 +127,12 @@ impl<
             watchdog: _,
             guard: _,
             guarded,
-            place,
+            endpoint,
             pace: _,
             valve: _,
         } = self;
-        if let Some(place) = place {
-            place.leave(&rt);
+        if let Some(endpoint) = endpoint {
+            endpoint.leave(&rt);
         }
         if let Some(guarded) = guarded {
             let _ = guarded.recv_timeout(&rt, Duration::from_secs(PATIENCE_SECONDS));
@@ -173,8 +173,8 @@ impl<
     }
 
     fn open(&mut self, opened: &Opened<M, FileDisk>) -> Result<(Listener, Lines<R>), Ending> {
-        let (listener, place, lines, guarded) = let_in(self, opened)?;
-        self.place = Some(place);
+        let (listener, endpoint, lines, guarded) = let_in(self, opened)?;
+        self.endpoint = Some(endpoint);
         self.guarded = guarded;
         Ok((listener, lines))
     }
@@ -207,16 +207,16 @@ fn let_in<
     let Some(streams) = &front.streams else {
         return Err(Ending::Server(ServerEnding::NoThread));
     };
-    let (listener, place) = listen(&front.rt, front.service.address)?;
-    match lines_of(front, streams, place.clone()?, world) {
+    let (listener, endpoint) = listen(&front.rt, front.service.address)?;
+    match lines_of(front, streams, endpoint.clone()?, world) {
         Ok((lines, guarded)) => {
             if front.service.every.is_none() {
                 streams.errors.print(&front.rt, Line::ManyImages);
             }
-            Ok((listener, place, lines, guarded))
+            Ok((listener, endpoint, lines, guarded))
         }
         Err(ending) => {
-            place.leave(&front.rt);
+            endpoint.leave(&front.rt);
             Err(ending)
         }
     }
@@ -226,7 +226,7 @@ fn let_in<
 fn lines_of<R: Wait + Clock + LookUp + Net + Files<File = File> + AllocGlobal + Copy, M: Method>(
     front: &SystemFrontend<'_, R>,
     streams: &Streams,
-    place: Arc<Endpoint, Global>,
+    endpoint: Arc<Endpoint, Global>,
     world: &Opened<M, FileDisk>,
 ) -> Result<(Lines<R>, Option<Receiver<()>>), Ending>
     ensures { IfErr result IsFault }
@@ -244,7 +244,7 @@ fn lines_of<R: Wait + Clock + LookUp + Net + Files<File = File> + AllocGlobal + 
     let is_guarded = guard.is_some();
     if let Some(watchdog) = &front.watchdog {
         let watched = Watched {
-            place: place.clone()?,
+            endpoint: endpoint.clone()?,
             files: files.clone()?,
             folder: File::open(&front.rt, service.folder).ok(),
             errors: streams.errors.clone()?,
@@ -264,7 +264,7 @@ fn lines_of<R: Wait + Clock + LookUp + Net + Files<File = File> + AllocGlobal + 
     }
     let lines = Lines {
         rt: front.rt,
-        place,
+        endpoint,
         files,
         output: streams.output.clone()?,
         errors: streams.errors.clone()?,
@@ -372,7 +372,7 @@ type Started = (Streams, Option<Sender<Arc<Pulse, Global>>>, Sender<Watched>);
 
 // Starts the threads of the streams, the one that prints figures if they are asked for, and the one
 // that looks at the server.
-fn started<
+fn start_threads<
     R: Threads
         + Wait
         + Clock
@@ -394,22 +394,22 @@ fn started<
     Ok((streams, reports, watchdog))
 }
 
-// A listener at this address, and its place.
+// A listener at this address, and its endpoint.
 fn listen<R: Net<Listener = TcpListener, Stream = TcpStream> + Files<File = File> + AllocGlobal>(
     rt: &R,
     address: Address<'_>,
 ) -> Result<(Listener, Arc<Endpoint, Global>), Ending>
     ensures { IfErr result IsFault }
 {
-    let (listener, place) = match address {
+    let (listener, endpoint) = match address {
         Address::Port(port) => listen_at_port(rt, port)?,
         Address::Socket { path, mode } => {
-            let (listener, file) = opened(rt.alloc(), "", path, listen_at(rt, path, mode))?;
+            let (listener, file) = blame(rt.alloc(), "", path, listen_at(rt, path, mode))?;
             (listener, Endpoint::Socket(file))
         }
     };
-    match Arc::new(rt.alloc(), place) {
-        Ok(place) => Ok((listener, place)),
+    match Arc::new(rt.alloc(), endpoint) {
+        Ok(endpoint) => Ok((listener, endpoint)),
         Err(failed) => {
             failed.value.leave(rt);
             Err(Ending::Fault(Refusal::NoMemory))

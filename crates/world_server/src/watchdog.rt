@@ -28,7 +28,7 @@ const PATIENCE_MILLISECONDS: u64 = 500;
 #[derive(Drop)]
 pub struct Watched {
     /// The server listens there.
-    pub place: Arc<Endpoint, Global>,
+    pub endpoint: Arc<Endpoint, Global>,
     /// The files that it has open.
     pub files: Arc<FourFiles<KeptFile>, Global>,
     /// Their folder, if it could be opened. It is locked once a file was removed or replaced, so
@@ -89,7 +89,7 @@ fn watch<R: Wait + Clock + Net<Listener = TcpListener, Stream = TcpStream> + Loo
         }
         watched.look(rt);
         if watched.standing.is_left() {
-            watched.place.wake(rt);
+            watched.endpoint.wake(rt);
             watched.write_guard(rt);
             return;
         }

@@ -33,13 +33,16 @@ use std::io;
 use std::time::Clock;
 use streams::run_steps;
 use world_actions::Refusal;
-use world_folder::{Ending, Exit, Stream, StreamFailure, create, create_of_words, guarded, opened};
+use world_folder::{
+    Ending, Exit, StandardStream, StreamFailure, SystemFolder, blame, create, create_of_words,
+    guarded,
+};
 use world_reports::{back_up, inspect, recover, salvage_world, status};
 use world_server::serve;
 
 fn main(rt: HostRuntime) -> Exit {
     // Before a file of a world: it must not get the descriptor of a standard stream that is closed.
-    let null = opened(rt.alloc(), "/dev", "null", take_standard_streams(&rt));
+    let null = blame(rt.alloc(), "/dev", "null", take_standard_streams(&rt));
     let _null = match null {
         Ok(null) => null,
         Err(ending) => return Exit::plain(ending),
@@ -81,7 +84,7 @@ fn run<R: Input + Print + Eprint + Clock + Files<File = File> + AllocGlobal + Cl
             rt,
             folder,
             guards,
-            Ending::of_command(create(rt, folder, cells)),
+            Ending::of_command(create(&mut SystemFolder::new(rt, folder), cells)),
         ),
         Invocation::CreateOfWords {
             folder,
@@ -89,28 +92,37 @@ fn run<R: Input + Print + Eprint + Clock + Files<File = File> + AllocGlobal + Cl
             asked,
             guards,
         } => {
-            let ending = Ending::of_command(create_of_words(rt, folder, words, asked));
-            guarded(rt, folder, guards, ending)
+            let mut system = SystemFolder::new(rt, folder);
+            let made = create_of_words(rt, &mut system, words, asked);
+            guarded(rt, folder, guards, Ending::of_command(made))
         }
         Invocation::Recover { folder, on_loss } => {
-            Ending::of_either(recover(rt, folder, on_loss))
+            Ending::of_either(recover(&mut SystemFolder::new(rt, folder), on_loss))
         }
         Invocation::Inspect {
             folder,
             words,
             on_loss,
-        } => Ending::of_either(inspect(rt, folder, words, on_loss)),
+        } => Ending::of_either(inspect(&mut SystemFolder::new(rt, folder), words, on_loss)),
         Invocation::Status {
             folder,
             on_loss,
             checks,
-        } => Ending::of_either(status(rt, folder, on_loss, checks)),
+        } => Ending::of_either(status(&mut SystemFolder::new(rt, folder), on_loss, checks)),
         Invocation::BackUp {
             folder,
             to,
             on_loss,
-        } => Ending::of_either(back_up(rt, folder, to, on_loss)),
-        Invocation::Salvage { folder, to } => Ending::of_either(salvage_world(rt, folder, to)),
+        } => {
+            let mut from = SystemFolder::new(rt, folder);
+            let mut into = SystemFolder::new(rt, to);
+            Ending::of_copy(back_up(&mut from, &mut into, on_loss))
+        }
+        Invocation::Salvage { folder, to } => {
+            let mut from = SystemFolder::new(rt, folder);
+            let mut into = SystemFolder::new(rt, to);
+            Ending::of_copy(salvage_world(&mut from, &mut into))
+        }
     }
 }
 
@@ -118,14 +130,14 @@ fn run<R: Input + Print + Eprint + Clock + Files<File = File> + AllocGlobal + Cl
 fn not_run(reason: NotRun) -> Ending
     ensures reported { reason ≡ NotRun.HelpPrinted → result ≡ Ending.HelpPrinted }
     ensures unprinted { (error : Error) → reason ≡ NotRun.Unprinted error
-        → result ≡ Ending.Stream (record { stream = Stream.Output; error = error }) }
+        → result ≡ Ending.Stream (record { stream = StandardStream.Output; error = error }) }
     ensures mistaken { reason ≡ NotRun.Mistaken → result ≡ Ending.Mistaken }
     ensures memory { reason ≡ NotRun.NoMemory → result ≡ Ending.Fault Refusal.NoMemory }
 {
     match reason {
         NotRun::HelpPrinted => Ending::HelpPrinted,
         NotRun::Unprinted(error) => Ending::Stream(StreamFailure {
-            stream: Stream::Output,
+            stream: StandardStream::Output,
             error,
         }),
         NotRun::Mistaken => Ending::Mistaken,

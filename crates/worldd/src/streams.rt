@@ -6,7 +6,7 @@ use std::alloc::Global;
 use std::io::{self, ErrorKind, Read, Write};
 use steps::run_script;
 use world_actions::Refusal;
-use world_folder::{Ending, Stream, StreamFailure};
+use world_folder::{Ending, StandardStream, StreamFailure};
 
 /// A stream, and why its last call that failed did.
 #[derive(Drop)]
@@ -76,11 +76,11 @@ fn ending_of(
 {
     match (run, input, output) {
         (Err(Refusal::Device), Some(error), _) => Ending::Stream(StreamFailure {
-            stream: Stream::Input,
+            stream: StandardStream::Input,
             error,
         }),
         (Err(Refusal::Device), None, Some(error)) => Ending::Stream(StreamFailure {
-            stream: Stream::Output,
+            stream: StandardStream::Output,
             error,
         }),
         (run, _, _) => Ending::of_run(run),

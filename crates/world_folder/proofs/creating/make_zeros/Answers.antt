@@ -9,5 +9,5 @@ returns-in-Ok-clause-zeros g c = λ honest honest_files.
 
 pub returns-in-Err-clause-refused : goal.returns-in-Err-clause-refused
 returns-in-Err-clause-refused g c = λ honest honest_files occupied.
-    absurd (taken_not_occupied g.F.File.Disk.content g.F.File.Disk.may_leave g.F.Folder.identity c.args.path.now c.in_ok-files.files _ _ c.in-Err.ending _
+    absurd (taken_not_occupied g.F.File.Disk g.F.Folder.identity c.path.result.now c.in_ok-files.files _ _ c.in-Err.ending _
     (c.in_ok-files.ensures.taken honest honest_files) (c.in-Err.ensures.unmade honest_files).reported (c.not_made.ensures.same occupied) occupied)

@@ -7,18 +7,16 @@ use Rattle.world_folder.proofs.making.make_in.Goals as goal
 
 pub returns-in-Ok-clause-made : goal.returns-in-Ok-clause-made
 returns-in-Ok-clause-made g c = λ honest.
-    let file = g.D.Disk.content in
     let bytes = c.in_default.field-0 in
-    let closed = read_closed file c.args.files bytes.image_a.items bytes.image_b.items bytes.log_a.items bytes.log_b.items (c.in_default.ensures.read honest) c.in_default.ensures.closed in
-    zeros_made file g.D.Disk.may_leave c.args.files c.closed_bytes.new.files c.in-Ok.files c.args.cells closed (c.in_default.ensures.kept honest) (c.in-Ok.ensures.made honest)
+    let closed = read_closed g.D.Disk c.args.files bytes.image_a.items bytes.image_b.items bytes.log_a.items bytes.log_b.items (c.in_default.ensures.read honest) c.in_default.ensures.closed in
+    zeros_made g.D.Disk c.args.files c.closed_bytes.new.files c.in-Ok.files c.args.cells closed (c.in_default.ensures.kept honest) (c.in-Ok.ensures.made honest)
 
 pub returns-in-Err-fresh_files-clause-unmade : goal.returns-in-Err-fresh_files-clause-unmade
 returns-in-Err-fresh_files-clause-unmade g c = λ honest.
-    let file = g.D.Disk.content in
     let bytes = c.in_default.field-0 in
     let refused = c.in-Err-fresh_files in
-    let closed = read_closed file c.args.files bytes.image_a.items bytes.image_b.items bytes.log_a.items bytes.log_b.items (c.in_default.ensures.read honest) c.in_default.ensures.closed in
-    zeros_unmade file g.D.Disk.may_leave c.args.folder.now c.args.files c.closed_bytes.new.files refused.files c.args.cells refused.refusal closed (c.in_default.ensures.kept honest)
+    let closed = read_closed g.D.Disk c.args.files bytes.image_a.items bytes.image_b.items bytes.log_a.items bytes.log_b.items (c.in_default.ensures.read honest) c.in_default.ensures.closed in
+    zeros_unmade g.D.Disk c.args.folder.now c.args.files c.closed_bytes.new.files refused.files c.args.cells refused.refusal closed (c.in_default.ensures.kept honest)
     refused.ensures.refused (refused.ensures.left honest)
 
 pub returns-in-Err-fresh_files-clause-device : goal.returns-in-Err-fresh_files-clause-device

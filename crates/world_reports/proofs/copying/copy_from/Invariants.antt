@@ -6,6 +6,5 @@ use Rattle.world_reports.proofs.copying.copy_from.Given as goal
 abbrev pub invariant-loop-number : goal.invariant-loop-number
 invariant-loop-number g l = record {
   few : l.blanks < 20;
-  same : IsTrue g.F.File.Disk.honest → mapped g.F.File.Disk.content l.source.files ≡ mapped g.F.File.Disk.content l.fn.source.files;
-  history : IsTrue g.F.Folder.honest → g.F.Folder.history l.folder ≡ g.F.Folder.history l.fn.folder;
+  same : IsTrue g.F.File.Disk.honest → mapped g.F.File.Disk.content l.files ≡ mapped g.F.File.Disk.content l.fn.files;
 }

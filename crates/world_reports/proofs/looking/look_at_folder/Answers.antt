@@ -7,6 +7,6 @@ returns-in-Ok-clause-seen g c = λ honest honest_files. inl (record {
   lengths = c.in-Ok.copied.lengths;
   copy = c.in-Ok.ensures.copied honest honest_files;
   are_read = c.read_of.ensures;
-  are_known = c.known.ensures;
+  are_known = c.known_lengths.ensures;
   none_failed = refl;
 })

@@ -1,14 +1,14 @@
 use Rattle.std.proofs.Common.{◌≡◌, ◌∙◌, List, ℕ, sym, subst, refl}
-use Rattle.world_folder.specs.declared.look.Look.{Look}
+use Rattle.world_folder.specs.declared.heads.Summary.{Summary}
 use Rattle.world_reports.specs.Copying.{IsReadWhole}
-use Rattle.world_reports.specs.Looks.{AreLookedAlike, look_of_files}
+use Rattle.world_reports.specs.Looks.{AreLookedAlike, summary_of_files}
 use Rattle.world_reports.specs.declared.looks.After.{After}
 use Rattle.world_reports.specs.declared.looks.Within.{Within}
 use Rattle.world_reports.proofs.looks.Alike.of.Goals as goal
 
 -- three looks that say the same, with whole segments in the middle one
-looked_alike : (within : Within) (after : After) (first second third : Look) (log_a log_b : List ℕ)
-    → first ≡ look_of_files within.before.heads → second ≡ look_of_files within.files → third ≡ look_of_files after.heads → (first ≡ second) × (third ≡ second)
+looked_alike : (within : Within) (after : After) (first second third : Summary) (log_a log_b : List ℕ)
+    → first ≡ summary_of_files within.before.heads → second ≡ summary_of_files within.files → third ≡ summary_of_files after.heads → (first ≡ second) × (third ≡ second)
     → log_a ≡ within.files.log_a.items → IsReadWhole log_a within.lengths.log_a → log_b ≡ within.files.log_b.items → IsReadWhole log_b within.lengths.log_b
     → (within.before.heads.image_a.items ≡ after.heads.image_a.items) × (within.before.heads.image_b.items ≡ after.heads.image_b.items)
     → AreLookedAlike within after
@@ -23,6 +23,6 @@ looked_alike within after first second third log_a log_b of_first of_second of_t
 
 pub returns-clause-alike : goal.returns-clause-alike
 returns-clause-alike c =
-    looked_alike c.args.within c.args.after _ _ _ _ _ c.look_at.ensures c.look_at-2.ensures c.look_at-3.ensures (c.if-not-are_alike.ensures refl)
+    looked_alike c.args.within c.args.after _ _ _ _ _ c.summary_of.ensures c.summary_of-copied.ensures c.summary_of-2.ensures (c.if-not-are_alike.ensures refl)
     c.deref.ensures.value (c.if-is_cut_short.ensures.whole refl) c.deref-else-is_cut_short.ensures.value (c.if-is_cut_short-2.ensures.whole refl)
     (c.if-not-same_images.ensures refl)

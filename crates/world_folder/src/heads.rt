@@ -2,7 +2,7 @@
 //! segments the log has.
 ghost use Rattle.std.specs.Prelude.{◌≡◌, ◌⊎◌, ◌≤◌, take, length, IsTrue, IfOk, IfErr};
 ghost use Rattle.disk_model.specs.FourFiles.{KeepsFile};
-ghost use Rattle.world_folder.specs.Look.{opened_tick, opened_base, newest_tick, look_of};
+ghost use Rattle.world_folder.specs.Heads.{opened_tick, opened_base, newest_tick, summary_of};
 
 use disk_model::{Disk, FourFiles};
 use file_format::{OPEN_GATE, Slot, u64_at};
@@ -17,15 +17,15 @@ pub const IMAGE_HEAD: usize = image_files::HEADER_BYTES;
 /// isn't looked at.
 pub const SEGMENT_HEAD: usize = action_log::HEADER_BYTES;
 
-/// A look at the heads of four files. Two that are alike have the same newest image, and the
+/// What the heads of four files say. Two that are alike have the same newest image, and the
 /// same open segments.
 #[derive(Clone, Copy, Debug, PartialEq, Eq)]
-pub struct Look {
+pub struct Summary {
     /// The open image with the greatest tick, and this tick.
     pub newest: Option<(Slot, u64)>,
     /// The base of log.a with the mark of its format, if it is open.
     pub log_a: Option<u64>,
-    /// The same of log.b.
+    /// The base of log.b with the mark of its format, if it is open.
     pub log_b: Option<u64>,
 }
 
@@ -33,7 +33,7 @@ pub struct Look {
 pub fn read_head<D: Disk>(alloc: Global, disk: &mut D, most: usize) -> Result<Vec<u8>, Refusal>
     ensures head { IsTrue D.honest
         → IfOk result (λ head. head.items ≡ take most (D.content disk.old)) }
-    ensures kept { IsTrue D.honest → KeepsFile D.content D.may_leave disk.old disk.new }
+    ensures kept { IsTrue D.honest → KeepsFile D.Disk disk.old disk.new }
     ensures refused { IfErr result (λ refusal. (refusal ≡ Refusal.Device)
         ⊎ (refusal ≡ Refusal.NoMemory)) }
 {
@@ -44,11 +44,11 @@ pub fn read_head<D: Disk>(alloc: Global, disk: &mut D, most: usize) -> Result<Ve
 }
 
 /// Looks at the first bytes of four files, and at no more of each than its head.
-pub fn look_at(files: &FourFiles<Vec<u8>>) -> Look
-    ensures { result ≡ look_of files.now.image_a.items files.now.image_b.items
+pub fn summary_of(files: &FourFiles<Vec<u8>>) -> Summary
+    ensures { result ≡ summary_of files.now.image_a.items files.now.image_b.items
         files.now.log_a.items files.now.log_b.items }
 {
-    Look {
+    Summary {
         newest: newest_of(opened_tick(&files.image_a), opened_tick(&files.image_b)),
         log_a: opened_base(&files.log_a),
         log_b: opened_base(&files.log_b),

@@ -8,7 +8,7 @@ use Rattle.file_format.specs.declared.format.TheConstants.{MARK_PLACE}
 use Rattle.file_format.specs.Number.{number_of}
 use Rattle.image_files.specs.Image.{is_open, tick_in}
 use Rattle.action_log.specs.declared.format.TheConstants.{HEADER_BYTES}
-use Rattle.world_folder.specs.declared.look.Look.{Look}
+use Rattle.world_folder.specs.declared.heads.Summary.{Summary}
 
 -- the tick of an image, if it is open
 abbrev pub opened_tick : List ℕ → Option ℕ
@@ -28,8 +28,8 @@ newest_tick None (Some t) = Some (B, t)
 newest_tick None None = None
 
 -- what four files with these bytes say
-abbrev pub look_of : (image_a image_b log_a log_b : List ℕ) → Look
-look_of image_a image_b log_a log_b = record {
+abbrev pub summary_of : (image_a image_b log_a log_b : List ℕ) → Summary
+summary_of image_a image_b log_a log_b = record {
   newest = newest_tick (opened_tick image_a) (opened_tick image_b);
   log_a = opened_base log_a;
   log_b = opened_base log_b;

@@ -6,7 +6,7 @@ use disk_model::WorldFile;
 
 /// A call of a folder that succeeded, with its answer, or a line that was printed.
 #[derive(Debug, Drop)]
-pub enum Noted {
+pub enum Note {
     /// This is what stands under a name, if anything does.
     Looked(WorldFile, Option<Entry>),
     /// The file to which a name leads was opened to be written.
