@@ -1,11 +1,11 @@
 //! The commands on folders in memory: what they print, and what they leave undone.
 use crate::same::same;
+use crate::{ModelFolder, Note};
 use disk_model::FourFiles;
 use std::alloc::Global;
 use std::process::Abort;
 use world_folder::{
-    Checks, Ending, Folder, Guard, Listed, ModelFolder, Note, OnLoss, create_listed, create_zeros,
-    stands_in,
+    Checks, Ending, Folder, Guard, Listed, OnLoss, create_listed, create_zeros, stands_in,
 };
 use world_reports::{back_up, recover, salvage_world, status};
 

@@ -1,7 +1,8 @@
 //! Tests of sessions over a port, of connections by a port and by a socket, and of workers in
 //! threads over files in memory. A round stays open while ticks are answered, and an image gets
 //! ticks before the log does. Each call of a file fails in turn, and crashes are tried once the
-//! workers' ends have met. Other tests make the steps of workers in one thread.
+//! workers' ends have met. Other tests make the steps of workers in one thread. Commands run on a
+//! folder in memory, `ModelFolder`, which keeps all that a `Folder` promises.
 //!
 //! A large value is dropped by a call of `drop`, which is proved much faster than its drop at
 //! the end of a scope.
@@ -21,6 +22,8 @@ mod failing;
 mod folders;
 #[cfg(test)]
 mod held;
+mod model_folder;
+mod note;
 #[cfg(test)]
 mod orders;
 #[cfg(test)]
@@ -41,3 +44,6 @@ mod stopped;
 mod tcp;
 #[cfg(test)]
 mod worlds;
+
+pub use model_folder::{ModelDisk, ModelFolder, ModelHandle};
+pub use note::Note;

@@ -15,4 +15,3 @@ pub mod Forward
 pub mod Texts
 pub mod Creating
 pub mod Unrecovered
-pub mod ModelFolder

@@ -2,8 +2,8 @@
 //! served, and how a program over one ends.
 //!
 //! `create` makes the files of a new world, and `create_of_words` those of one with given words.
-//! `open_files` locks the files to serve their world. A `Folder` is where the files are: of the
-//! system, or in memory. An `Ending` says what went wrong, and names the file.
+//! `open_files` locks the files to serve their world. A `Folder` is where the files are. An
+//! `Ending` says what went wrong, and names the file.
 #![tactic(auto)]
 
 mod checked;
@@ -24,8 +24,6 @@ mod laws;
 mod locks;
 mod lost;
 mod making;
-mod model_folder;
-mod note;
 mod opening;
 mod own_file;
 mod present;
@@ -54,8 +52,6 @@ pub use laws::{copies_are_of_a_moment, sound_files_have_no_gap};
 pub use locks::{LockState, lock};
 pub use lost::{Checks, Finding, Lost, OnLoss, older_finding};
 pub use making::{Made, make_in, make_of_words};
-pub use model_folder::{ModelDisk, ModelFolder, ModelHandle};
-pub use note::Note;
 pub use opening::{Unreadable, blame, ending_for, failure_of, open_files, path_of, sync_names};
 pub use reading::{all_read, explain, read_file, read_folder, read_whole};
 pub use system_error::Reason;

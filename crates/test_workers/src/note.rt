@@ -1,8 +1,6 @@
 //! The calls and lines that a folder in memory notes.
-use crate::entry::Entry;
-use crate::guard::Guard;
-use crate::locks::LockState;
 use disk_model::WorldFile;
+use world_folder::{Entry, Guard, LockState};
 
 /// A call of a folder that succeeded, with its answer, or a line that was printed.
 #[derive(Debug, Drop)]

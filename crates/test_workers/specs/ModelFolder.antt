@@ -3,8 +3,8 @@ use Rattle.std.specs.Prelude.{List, [], ◌∷◌, string_bytes}
 use Rattle.world_folder.specs.History.{Act, Looked, Opened, Made, Locked, Read, Measured, Asked}
 use Rattle.world_folder.specs.History.{AskedOwn, Unopened, NamesSynced, OwnNameSynced, FoundEmpty}
 use Rattle.world_folder.specs.History.{Printed, Warned, FoundOutside, Removed, GuardRead, GuardPut}
-use Rattle.world_folder.specs.declared.note.Note.{Note}
-use Rattle.world_folder.specs.declared.note.Note.TheVariants as note
+use Rattle.test_workers.specs.declared.note.Note.{Note}
+use Rattle.test_workers.specs.declared.note.Note.TheVariants as note
 
 abbrev pub act_of : Note → Act
 act_of (note.Looked file there) = Looked file there

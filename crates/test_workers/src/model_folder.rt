@@ -6,20 +6,18 @@ ghost use Rattle.std.specs.IoError.{error_kind};
 ghost use Rattle.disk_model.specs.Disk.{Only, last_count, min-last_count};
 ghost use Rattle.disk_model.specs.CrashOutcome.{IsCrashOutcome, content_stays};
 ghost use Rattle.disk_model.specs.FileState.{Calls};
-ghost use Rattle.world_folder.specs.ModelFolder.{act_of, acts_of};
+ghost use Rattle.test_workers.specs.ModelFolder.{act_of, acts_of};
 
-use crate::ending::{Ending, Occupied};
-use crate::entry::{Entry, FileKind, Identity};
-use crate::folders::{Folder, Reading, WorldDisk};
-use crate::guard::{GUARD, Guard};
-use crate::locks::LockState;
 use crate::note::Note;
-use crate::system_error::error_of;
 use disk_model::{Disk, FourFiles, ModelFile, WorldFile};
 use std::alloc::{AllocError, Global};
 use std::fmt::Display;
 use std::io::{self, ErrorKind};
 use world_actions::Refusal;
+use world_folder::{
+    Ending, Entry, FileKind, Folder, GUARD, Guard, Identity, LockState, Occupied, Reading,
+    WorldDisk,
+};
 
 /// The number of the device on which the files lie.
 const DEVICE: u64 = 1;
@@ -165,7 +163,7 @@ fn disk_of(alloc: Global, bytes: Vec<u8>, identity: Identity) -> io::Result<Mode
 {
     match ModelFile::new(alloc, bytes) {
         Ok(file) => Ok(ModelDisk { file, identity }),
-        Err(refusal) => Err(error_of(refusal)),
+        Err(_) => Err(io::Error::from(AllocError)),
     }
 }
 
