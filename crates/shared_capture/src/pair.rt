@@ -42,10 +42,7 @@ pub fn ping_pong_pair(alloc: Global, words: Vec<u64>) -> Result<(Front<Pong>, Ba
 }
 
 /// Makes two seats of a method at a new table with these words. The front keeps their list.
-pub fn seat_pair<M: Method>(
-    alloc: Global,
-    words: Vec<u64>,
-) -> Result<(Front<M>, Back<M>), Refusal>
+pub fn seat_pair<M: Method>(alloc: Global, words: Vec<u64>) -> Result<(Front<M>, Back<M>), Refusal>
     requires { All IsWord words.items }
     ensures ok { IfOk result (λ pair. IsStart words.items pair.0 pair.1) }
     ensures err { IfErr result (λ refusal. refusal ≡ Refusal.NoMemory) }

@@ -74,13 +74,13 @@ module _ {D : Type 0} (disk : Ghosts D) where
       subst (λ r. KeepsWorld disk files r.tick left) (sym g.0) (subst (KeepsWorld disk files world.tick) (sym g.1) keeps)
   given_left files given world keeps (failure.NotRun recovered ending) g = tt
 
-pub given_reason : {D S : Type 0} (file : D → List ℕ) (honest : Bool) (checks : Checks) (files given : FourFiles D) (world : WorldReport)
-    (r : Result S (WorldFailure D)) → IfErr r (GivesBack world given) → IfErr r (FailsFor file honest checks files)
-given_reason file honest checks files given world (Ok s) g = tt
-given_reason file honest checks files given world (Err (failure.NotRecovered left why)) g = absurd g
-given_reason file honest checks files given world (Err (failure.NotStarted recovered left refusal)) g = absurd g
-given_reason file honest checks files given world (Err (failure.NotOpened recovered left ending)) g = tt
-given_reason file honest checks files given world (Err (failure.NotRun recovered ending)) g = tt
+pub given_reason : {D S : Type 0} (disk : Ghosts D) (checks : Checks) (files given : FourFiles D) (world : WorldReport)
+    (r : Result S (WorldFailure D)) → IfErr r (GivesBack world given) → IfErr r (FailsFor disk checks files)
+given_reason disk checks files given world (Ok s) g = tt
+given_reason disk checks files given world (Err (failure.NotRecovered left why)) g = absurd g
+given_reason disk checks files given world (Err (failure.NotStarted recovered left refusal)) g = absurd g
+given_reason disk checks files given world (Err (failure.NotOpened recovered left ending)) g = tt
+given_reason disk checks files given world (Err (failure.NotRun recovered ending)) g = tt
 
 -- ---- the lines
 

@@ -116,14 +116,12 @@ module _ {D : Type 0} (disk : Ghosts D) where
 
 -- The reason why a world isn't served: recovery or the checks refuse the files, or its start found
 -- no memory or a device failed. What else fails, the ending says.
-abbrev pub FailsFor : {D : Type 0} → (file : D → List ℕ) → (honest : Bool) → Checks → FourFiles D
-    → WorldFailure D → Type 0
-FailsFor file honest checks files (failure.NotRecovered left why) =
-    IsUnrecovered file honest checks files why
-FailsFor file honest checks files (failure.NotStarted world left refusal) =
+abbrev pub FailsFor : {D : Type 0} → Ghosts D → Checks → FourFiles D → WorldFailure D → Type 0
+FailsFor disk checks files (failure.NotRecovered left why) = IsUnrecovered disk checks files why
+FailsFor disk checks files (failure.NotStarted world left refusal) =
     (refusal ≡ NoMemory) ⊎ (refusal ≡ Device)
-FailsFor file honest checks files (failure.NotOpened world left ending) = Unit {0}
-FailsFor file honest checks files (failure.NotRun world ending) = Unit {0}
+FailsFor disk checks files (failure.NotOpened world left ending) = Unit {0}
+FailsFor disk checks files (failure.NotRun world ending) = Unit {0}
 
 -- an open world that isn't served has its files again, unless workers have them
 abbrev pub GivesBack : {D : Type 0} → WorldReport → FourFiles D → WorldFailure D → Type 0

@@ -89,7 +89,7 @@ pub fn serve_world<
         PlaysInTurn served.stopped.workers.mutator.asks.taken
         served.stopped.workers.mutator.to.items) }
     ensures left { IsTrue D.honest → IfErr result (LeavesWorld D.Disk files) }
-    ensures reason { IfErr result (FailsFor D.content D.honest checks files) }
+    ensures reason { IfErr result (FailsFor D.Disk checks files) }
     ensures printed { IsTrue F.known → MatchResult result
         (λ served. F.printed front.new ≡ F.printed front.old ++ recovered_line served.recovered
         ∷ stopped_line served.stopped.workers.mutator served.stopped.workers.checkpointer
@@ -129,7 +129,7 @@ fn open_files<M: Method, D: Disk + Drop, W, F: Frontend<M, D, W>>(
     ensures keeps { IsTrue D.honest → IfOk result (λ made.
         KeepsWorld D.Disk files made.0.tick (files_of made.1.images made.1.log)) }
     ensures left { IsTrue D.honest → IfErr result (LeavesWorld D.Disk files) }
-    ensures reason { IfErr result (FailsFor D.content D.honest checks files) }
+    ensures reason { IfErr result (FailsFor D.Disk checks files) }
     ensures printed { IsTrue F.known → MatchResult result
         (λ made. F.printed front.new ≡ F.printed front.old ++ recovered_line made.0 ∷ [])
         (λ failure. F.printed front.new ≡ F.printed front.old ++ failure_lines failure) }

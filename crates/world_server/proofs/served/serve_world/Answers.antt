@@ -20,4 +20,4 @@ returns-clause-printed g c = λ known.
     _ _ _ (c.in_ok-recovered.ensures.printed known) (c.serve_opened.ensures.printed known) c.serve_opened.ensures.recovered c.serve_opened.ensures.left
 
 pub returns-clause-reason : goal.returns-clause-reason
-returns-clause-reason g c = given_reason g.D.Disk.content g.D.Disk.honest c.args.checks c.args.files _ c.in_ok-recovered.recovered c.serve_opened.result c.serve_opened.ensures.left
+returns-clause-reason g c = given_reason g.D.Disk c.args.checks c.args.files _ c.in_ok-recovered.recovered c.serve_opened.result c.serve_opened.ensures.left
