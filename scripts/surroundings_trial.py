@@ -329,7 +329,8 @@ class Trial:
         sizes = []
         for clients in (1, None):
             server = self.server(clients=clients)
-            want(server.client().play() == b"tick 1: +\n", "no answer of a first client")
+            first = server.client()
+            want(first.play() == b"tick 1: +\n", "no answer of a first client")
             sizes.append(footprint(server.process.pid).size)
             server.kill()
         want(sizes[1] - sizes[0] < MORE_BYTES, f"clients that may come take memory: {sizes}")
