@@ -1,5 +1,6 @@
 -- An action that is refused leaves a world as it was.
-use Rattle.std.proofs.Common.{◌≡◌, List, length, Result, Ok, Err, ap, ◌∙◌}
+use Rattle.std.proofs.Common.{rules}
+use Rattle.std.proofs.Common.{◌≡◌, List, length, Result, ◌∙◌}
 use Rattle.std.specs.Prelude.{OnOk, OnErr}
 use Rattle.world_actions.specs.declared.action.Action.{Action}
 use Rattle.world_actions.specs.declared.refusal.Refusal.{Refusal}
@@ -17,5 +18,4 @@ pub record IsSameSize (old new : Content) : Type 0 where
   pub left : new.left ≡ old.left
 
 pub same_size : {T P Q : Type 0} (r : Result T Refusal) (old new : Content) → (P → IsSameSize old new) → (Q → new ≡ old) → OnOk r P → OnErr r Q → IsSameSize old new
-same_size (Ok value) old new done unchanged p q = done p
-same_size (Err refusal) old new done unchanged p q = record { cells = ap (λ (c : Content). length c.live) (unchanged q); left = ap (λ (c : Content). c.left) (unchanged q) }
+same_size b old new done unchanged p q = search rules

@@ -1,5 +1,6 @@
 -- A start begins in order, and in step with the ticks that it keeps.
-use Rattle.std.proofs.Common.{◌≡◌, ℕ, ◌-◌, ◌≤◌, Bool, true, false, IsTrue, List, [], length, Option, Ok, if◌then◌else◌, refl, sym, ap, subst, ◌∙◌, arith}
+use Rattle.std.proofs.Common.{rules}
+use Rattle.std.proofs.Common.{◌≡◌, ℕ, ◌≤◌, Bool, true, false, IsTrue, List, [], length, Option, Ok, if◌then◌else◌, refl, sym, ap, subst, ◌∙◌, arith}
 use Rattle.world_actions.specs.declared.action.Action.{Action}
 use Rattle.world_actions.specs.declared.world.TheConstants.{CELLS}
 use Rattle.world_ticks.specs.declared.tick.TheConstants.{TICK_MAX}
@@ -10,10 +11,9 @@ use Rattle.disk_model.specs.declared.disk.Disk.{Ghosts}
 use Rattle.disk_model.specs.declared.four_files.FourFiles.{FourFiles}
 use Rattle.file_format.specs.Gate.{HasShutGate}
 use Rattle.file_format.specs.declared.slot.Slot.{Slot}
-use Rattle.file_format.specs.Slot.{of_slot}
 use Rattle.image_files.specs.declared.phase.Phase.TheVariants.{Idle, Closing, Header}
 use Rattle.image_files.specs.Images.{ImageFiles}
-use Rattle.image_files.specs.Progress.{Progress as ImageProgress, PhaseFits, made_keeper, begun_keeper, target_of}
+use Rattle.image_files.specs.Progress.{Progress as ImageProgress, PhaseFits, made_keeper, begun_keeper}
 use Rattle.image_files.specs.Keeper.{Fits, TargetFits}
 use Rattle.image_files.specs.Files.{DisksStand, FitsFiles as ImagesFit, HoldsNewest, IsReported}
 use Rattle.action_log.specs.declared.progress.Progress.{Progress as LogProgress}
@@ -23,7 +23,7 @@ use Rattle.action_log.specs.Files.{FitsFiles as LogFits}
 use Rattle.action_log.specs.Logs.{InStart, start_of, start_moves}
 use Rattle.restart.specs.Start.{has_round, started_keeper, images_begun, IsBuilt}
 use Rattle.restart.specs.InStep.{InStep}
-use Rattle.engine.specs.World.{World, HasLog, CellsLeft, IsInOrder}
+use Rattle.engine.specs.World.{World, CellsLeft, IsInOrder}
 use Rattle.engine.specs.Follows.{Follows}
 use Rattle.engine.specs.Begins.{AreGates, Begins}
 use Rattle.engine.specs.Laws.{KeeperLaws}
@@ -32,63 +32,39 @@ use Rattle.engine.proofs.Following.{Keeps}
 -- ---- the store
 
 pub built_live : (words : List ℕ) (round : Bool) (content : Content) → IsBuilt words round content → content.live ≡ words
-built_live words false content s = ap (λ (c : Content). c.live) s
-built_live words true content s = s.live
+built_live words round content s = search rules
 
 begun_by : (shut : Bool) → (if shut then Header else Closing) ≡ Idle → ⊥
-begun_by true e = absurd (let h = e in cc)
-begun_by false e = absurd (let h = e in cc)
+begun_by shut e = search rules
 
 pub started_cells : (round : Bool) (tick : ℕ) (keeper : ImageProgress) → (started_keeper round tick keeper).cells ≡ keeper.cells
-started_cells false tick keeper = refl
-started_cells true tick keeper = refl
+started_cells round tick keeper = search rules
 
 pub started_newest : (round : Bool) (tick : ℕ) (keeper : ImageProgress) → (started_keeper round tick keeper).newest ≡ keeper.newest
-started_newest false tick keeper = refl
-started_newest true tick keeper = refl
+started_newest round tick keeper = search rules
 
 -- all cells of a round are left, and none if there is no round
 cells_left : (cells tick : ℕ) (newest : Option (Slot × ℕ)) (shut_a shut_b round : Bool) (words : List ℕ) (content : Content) → length words ≡ cells → IsBuilt words round content
     → CellsLeft (started_keeper round tick (made_keeper cells newest shut_a shut_b)) content
-cells_left cells tick newest shut_a shut_b false words content all built = record {
-  in_round = λ no. absurd (no refl);
-  idle = λ e. ap (λ (c : Content). c.left) built;
-}
-cells_left cells tick newest shut_a shut_b true words content all built = record {
-  in_round = λ no. (let count = built.cells in omega (arith, count, all));
-  idle = λ e. absurd (begun_by (made_keeper cells newest shut_a shut_b).target_shut e);
-}
+cells_left cells tick newest shut_a shut_b round words content all built = search (rules, begun_by)
 
 -- ---- a new keeper
 
 -- the target of a round that begins, by its gate
 target_begun : (shut : Bool) (keeper : ImageProgress) (target : List ℕ) → (IsTrue shut → HasShutGate target) → TargetFits (if shut then Header else Closing) keeper target
-target_begun true keeper target reported = reported refl
-target_begun false keeper target reported = tt
+target_begun shut keeper target reported = search rules
 
 phase_begun : (shut : Bool) (keeper : ImageProgress) → keeper.written ≡ 0 → keeper.chunk ≡ [] → PhaseFits (if shut then Header else Closing) keeper
-phase_begun true keeper none empty = (none, empty)
-phase_begun false keeper none empty = (none, empty)
+phase_begun shut keeper none empty = search rules
 
 -- a round that begins leaves the files as they are
 begun_fits : (cells tick : ℕ) (newest : Option (Slot × ℕ)) (shut_a shut_b : Bool) (target newest_file : List ℕ) → tick ≤ TICK_MAX
     → Fits (made_keeper cells newest shut_a shut_b) target newest_file → Fits (begun_keeper tick (made_keeper cells newest shut_a shut_b)) target newest_file
-begun_fits cells tick newest shut_a shut_b target newest_file most fits =
-    let shut = of_slot (target_of newest) shut_a shut_b in
-    let keeper = begun_keeper tick (made_keeper cells newest shut_a shut_b) in
-    record {
-      in_order = record { some = fits.in_order.some; most = fits.in_order.most; ticks = most; within = fits.in_order.within; by_phase = phase_begun shut keeper refl refl };
-      image = fits.image;
-      newest_shut = fits.newest_shut;
-      of_target = target_begun shut keeper target fits.of_target;
-      chunk = fits.chunk;
-    }
+begun_fits cells tick newest shut_a shut_b target newest_file most fits = search (rules, phase_begun, target_begun)
 
 started_fits : (round : Bool) (cells tick : ℕ) (newest : Option (Slot × ℕ)) (shut_a shut_b : Bool) (image_a image_b : List ℕ)
     → tick ≤ TICK_MAX → ImagesFit (made_keeper cells newest shut_a shut_b) image_a image_b → ImagesFit (started_keeper round tick (made_keeper cells newest shut_a shut_b)) image_a image_b
-started_fits false cells tick newest shut_a shut_b image_a image_b most fits = fits
-started_fits true cells tick newest shut_a shut_b image_a image_b most fits =
-    begun_fits cells tick newest shut_a shut_b (of_slot (target_of newest) image_a image_b) (of_slot (target_of newest) image_b image_a) most fits
+started_fits round cells tick newest shut_a shut_b image_a image_b most fits = search (rules, begun_fits)
 
 -- ---- in order
 
@@ -109,21 +85,14 @@ begins_in_order {D} disk laws newest tick words shut files world some few most g
     let q = laws.queue tick shut.log_a shut.log_b in
     record {
       cells =
-          ap (λ (k : ImageProgress). k.cells) b.images ∙ (started_cells round tick (made_keeper cells newest shut.image_a shut.image_b)
-          ∙ ap length (sym (built_live words round world.content b.store)));
+          search (rules, started_cells, built_live);
       left = subst (λ k. CellsLeft k world.content) (sym b.images) (cells_left cells tick newest shut.image_a shut.image_b round words world.content refl b.store);
       images_fit = λ sure. subst (λ (k : ImageProgress). ImagesFit k (disk.content world.files.image_a) (disk.content world.files.image_b)) (sym b.images)
-          (subst (λ (f : FourFiles D). ImagesFit (started_keeper round tick (made_keeper cells newest shut.image_a shut.image_b)) (disk.content f.image_a) (disk.content f.image_b)) (sym b.files_are)
-          (started_fits round cells tick newest shut.image_a shut.image_b (disk.content files.image_a) (disk.content files.image_b) most
-          (laws.images cells newest shut.image_a shut.image_b (disk.content files.image_a) (disk.content files.image_b) some few (holds sure) (gates sure).image_a.yes (gates sure).image_b.yes)));
+          (search (rules, started_fits));
       log_fits = λ sure. subst (λ (k : LogProgress). LogFits k (disk.content world.files.log_a) (disk.content world.files.log_b)) (sym b.log)
-          (subst (λ (f : FourFiles D). LogFits (begun tick shut.log_a shut.log_b) (disk.content f.log_a) (disk.content f.log_b)) (sym b.files_are)
-          (laws.log tick shut.log_a shut.log_b (disk.content files.log_a) (disk.content files.log_b) most (gates sure).log_a.yes (gates sure).log_b.yes));
+          (search rules);
       queue_follows = subst (λ k. QueueFollows k world.queue) (sym b.log) (subst (QueueFollows (begun tick shut.log_a shut.log_b)) (sym b.queue) q.0);
-      queue_end = ap (λ k. end_of k world.queue) b.log ∙ (ap (end_of (begun tick shut.log_a shut.log_b)) b.queue ∙ (q.1
-          ∙
-          (ap (λ n. record { base = n; count = 0 })
-          (let e : tick ≡ world.ended - world.since = omega (arith, b.ended, b.since) in e) ∙ ap (λ n. record { base = world.ended - world.since; count = n }) (sym b.since))));
+      queue_end = search rules;
       within = omega (arith, b.since);
       most = omega (arith, b.ended, most);
     }
@@ -163,8 +132,7 @@ module _ {D : Type 0} (disk : Ghosts D) (laws : KeeperLaws disk) where
         has_images = subst (λ (k : ImageProgress). DisksStand disk k begun_at world.files.image_a world.files.image_b) (sym b.images)
             (subst (λ (f : FourFiles D). DisksStand disk keeper begun_at f.image_a f.image_b) (sym b.files_are)
             (begun_images cells newest tick round images shut files some few most oa ob gates reported));
-        has_log = subst (λ (w : LogProgress × FourFiles D). HasLog disk (record world { log = w.0; files = w.1 }) place) (λ i. ((sym b.log) i, (sym b.files_are) i))
-            (laws.begins tick shut.log_a shut.log_b files.log_a files.log_b before_a before_b most ola olb gates.log_a gates.log_b reads_a reads_b);
+        has_log = search rules;
         cells = ap (λ (k : ImageProgress). k.cells) b.images ∙ (started_cells round tick (made_keeper cells newest shut.image_a shut.image_b) ∙ sym all);
         last = words;
         after_ended = after;

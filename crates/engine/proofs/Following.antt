@@ -1,27 +1,24 @@
 -- Each operation keeps a world in step with its ticks.
-use Rattle.std.proofs.Common.{◌≡◌, ℕ, ◌+◌, ◌<◌, ◌≤◌, ◌⊎◌, inl, inr, Bool, true, false, nat_le, if◌then◌else◌, List, [], ◌∷◌, ◌++◌, length, None, Result, Ok, Err, refl, sym, ap, subst, ◌∙◌}
+use Rattle.std.proofs.Common.{rules}
+use Rattle.std.proofs.Common.{◌≡◌, ℕ, ◌+◌, ◌<◌, ◌≤◌, ◌⊎◌, Bool, false, nat_le, if◌then◌else◌, List, [], ◌∷◌, ◌++◌, length, None, Result, Ok, Err, refl, sym, ap, subst, ◌∙◌}
 use Rattle.std.proofs.Common.{arith}
-use Rattle.std.specs.List.{flat_map}
 use Rattle.std.proofs.lemmas.Grind.{flat_map-append}
 use Rattle.std.proofs.lemmas.List.{length-append, append-nil}
 use Rattle.world_actions.specs.declared.action.Action.{Action}
 use Rattle.world_actions.specs.declared.refusal.Refusal.{Refusal}
 use Rattle.world_actions.specs.declared.refusal.Refusal.TheVariants.{TickFull}
-use Rattle.world_actions.specs.Effect.{effect}
 use Rattle.disk_model.specs.declared.disk.Disk.{Ghosts}
-use Rattle.world_ticks.specs.declared.tick.TheConstants.{TICK_MAX, TICK_ACTIONS}
-use Rattle.world_ticks.specs.After.{and_then, after_actions, after_ticks}
-use Rattle.capture_core.specs.Content.{Content, Takes}
+use Rattle.world_ticks.specs.declared.tick.TheConstants.{TICK_MAX}
+use Rattle.world_ticks.specs.After.{after_actions, after_ticks}
+use Rattle.capture_core.specs.Content.{Takes}
 use Rattle.image_files.specs.declared.answer.ImageAnswer.{ImageAnswer}
-use Rattle.image_files.specs.declared.answer.ImageAnswer.TheVariants as image_answer
 use Rattle.image_files.specs.declared.phase.Phase.TheVariants.{Idle}
 use Rattle.image_files.specs.Progress.{begun_keeper, newest_tick}
-use Rattle.image_files.specs.Images.{Images, ImageFiles, NoneYet, Newest, StepsImages, newest_in, round_in, with_round}
+use Rattle.image_files.specs.Images.{Images, ImageFiles, Newest, StepsImages, newest_in, round_in, with_round}
 use Rattle.action_log.specs.declared.answer.LogAnswer.{LogAnswer}
-use Rattle.action_log.specs.declared.answer.LogAnswer.TheVariants as log_answer
 use Rattle.action_log.specs.declared.record.Record.{Record}
 use Rattle.action_log.specs.declared.record.Record.TheVariants as records
-use Rattle.action_log.specs.Logs.{Logs, Journal, InStart, Writing, LogPlace}
+use Rattle.action_log.specs.Logs.{Logs, Journal, Writing, LogPlace}
 use Rattle.action_log.specs.LogSteps.{StepIn, JournalStep}
 use Rattle.recovery.specs.Events.{IsKept, ReceiptIs, acknowledged_opened, acknowledged_after}
 use Rattle.restart.specs.InStep.{InStep, NoneWaitedFor}
@@ -34,50 +31,39 @@ use Rattle.engine.specs.Laws.{EventLaws, KeeperLaws}
 
 -- a step acknowledges no less than before
 opened_more : (fewer count : ℕ) (given : ImageAnswer) → fewer ≤ count → acknowledged_opened fewer given ≤ acknowledged_opened count given
-opened_more fewer count (image_answer.Opened tick) less = omega (arith, less)
-opened_more fewer count given less = less
+opened_more fewer count given less = search rules
 
 logged_more : (fewer count : ℕ) (given : LogAnswer) → fewer ≤ count → acknowledged_after fewer given ≤ acknowledged_after count given
-logged_more fewer count (log_answer.Acked tick) less = omega (arith, less)
-logged_more fewer count given less = less
+logged_more fewer count given less = search rules
 
 pub opened_counts : (acknowledged : ℕ) (given : ImageAnswer) → acknowledged ≤ acknowledged_opened acknowledged given
-opened_counts acknowledged (image_answer.Opened tick) = omega arith
-opened_counts acknowledged given = omega arith
+opened_counts acknowledged given = search rules
 
 pub logged_counts : (acknowledged : ℕ) (given : LogAnswer) → acknowledged ≤ acknowledged_after acknowledged given
-logged_counts acknowledged (log_answer.Acked tick) = omega arith
-logged_counts acknowledged given = omega arith
+logged_counts acknowledged given = search rules
 
 -- ---- the running tick
 
 pub empty_rests : (journal : Journal) (running : List Action) → running ≡ [] → NoneInStart journal running
-empty_rests (InStart start) running e = e
-empty_rests (Writing logs) running e = tt
+empty_rests journal running e = search rules
 
 log_rests : (running : List Action) (journal : Journal) (left : ℕ) (queue : List Record) (given : LogAnswer) (next : LogPlace)
     (rest : List Record) → StepIn journal left queue given next rest → NoneInStart journal running → NoneInStart next.journal running
-log_rests running (InStart start) left queue given next rest s at_rest = empty_rests next.journal running at_rest
-log_rests running (Writing logs) left queue given next rest s at_rest = subst (λ (p : LogPlace). NoneInStart p.journal running) (sym s.1) tt
+log_rests running journal left queue given next rest s at_rest = search (rules, empty_rests)
 
 pub ok_injective : (v w : List ℕ) → ◌≡◌ {A = Result (List ℕ) Refusal} (Ok v) (Ok w) → v ≡ w
 ok_injective v w e = cc
 
 not_full : (full : Bool) (r : Result (List ℕ) Refusal) (after : List ℕ) → (if full then Err TickFull else r) ≡ Ok after → r ≡ Ok after
-not_full true r after e = absurd (let h = e in cc)
-not_full false r after e = e
+not_full full r after e = search rules
 
 more_actions : EventLaws → (last live after : List ℕ) (running actions : List Action) → after_actions last running ≡ Ok live
     → after_actions live actions ≡ Ok after → after_actions last (running ++ actions) ≡ Ok after
-more_actions laws last live after running actions e h =
-    laws.append last running actions ∙ ap (λ r. and_then r (λ next. after_actions next actions)) e ∙ h
+more_actions laws last live after running actions e h = search rules
 
 world_ended : EventLaws → (first : List ℕ) (ticks : List (List Action)) (running : List Action) (last live : List ℕ)
     → after_ticks first ticks ≡ Ok last → after_actions last running ≡ Ok live → after_ticks first (ticks ++ running ∷ []) ≡ Ok live
-world_ended laws first ticks running last live e h =
-    ap (after_actions first) (flat_map-append (λ tick. tick) ticks (running ∷ []) ∙ ap (λ l. flat_map (λ tick. tick) ticks ++ l) (append-nil running))
-    ∙ laws.append first (flat_map (λ tick. tick) ticks) running
-    ∙ ap (λ r. and_then r (λ next. after_actions next running)) e ∙ h
+world_ended laws first ticks running last live e h = search (rules, flat_map-append, append-nil)
 
 pub no_action : (last live : List ℕ) (running : List Action) → running ≡ [] → after_actions last running ≡ Ok live → last ≡ live
 no_action last live running none e = ok_injective last live (subst (λ r. after_actions last r ≡ Ok live) none e)
@@ -86,21 +72,7 @@ module _ {D : Type 0} (disk : Ghosts D) where
   -- fewer ticks are acknowledged too
   pub fewer_follow : (world : World D) (first : List ℕ) (ticks : List (List Action)) (acknowledged few : ℕ) → few ≤ acknowledged
       → Follows disk world first ticks acknowledged → Follows disk world first ticks few
-  fewer_follow world first ticks acknowledged few fewer f = record {
-    images = f.images;
-    place = f.place;
-    has_images = f.has_images;
-    has_log = f.has_log;
-    cells = f.cells;
-    last = f.last;
-    after_ended = f.after_ended;
-    live = f.live;
-    at_rest = f.at_rest;
-    ended = f.ended;
-    count = f.count;
-    at_least = omega (arith, fewer, f.at_least);
-    in_step = f.in_step;
-  }
+  fewer_follow world first ticks acknowledged few fewer f = search rules
 
   -- a world follows these ticks, by these images and this log
   pub record Keeps (world : World D) (first : List ℕ) (ticks : List (List Action)) (acknowledged : ℕ) (images : ImageFiles) (place : LogPlace) : Type 0 where
@@ -120,9 +92,7 @@ module _ {D : Type 0} (disk : Ghosts D) where
 
   started_by : (world : World D) (first : List ℕ) (ticks : List (List Action)) (count : ℕ) (images : ImageFiles) (journal : Journal) (left : ℕ) → world.log.starting ≡ false
       → HasLog disk world (record { journal = journal; left = left }) → InStep first ticks count world.content images journal world.queue → HasStarted world first ticks count images journal
-  started_by world first ticks count images (InStart start) left over stands w = absurd (let h : true ≡ false = sym stands.in_work ∙ over in cc)
-  started_by world first ticks count (NoneYet images) (Writing logs) left over stands w = absurd w.phase
-  started_by world first ticks count (Newest images) (Writing logs) left over stands w = record { newest = images; logs = logs; is_newest = refl; is_writing = refl; in_step = w }
+  started_by world first ticks count images journal left over stands w = search rules
 
   pub has_started : (world : World D) (first : List ℕ) (ticks : List (List Action)) (acknowledged : ℕ) (f : Follows disk world first ticks acknowledged)
       → world.log.starting ≡ false → HasStarted world first ticks f.count f.images f.place.journal
@@ -132,13 +102,7 @@ module _ {D : Type 0} (disk : Ghosts D) where
 
   -- an action is done as a list of one
   pub action_does : (old : World D) (action : Action) (new : World D) → DoesAction old action new → DoesActions old (action ∷ []) new
-  action_does old action new d = record {
-    rest = d.rest;
-    done = ap (λ r. and_then r (λ next. Ok next)) (not_full (nat_le TICK_ACTIONS (length old.running)) (effect old.content.live action) new.content.live d.decided);
-    cells = d.cells;
-    left = ap (λ (c : Content). c.left) d.content;
-    covers = d.covers;
-  }
+  action_does old action new d = search (rules, not_full, nat_le)
 
   pub actions_follow : EventLaws → (old new : World D) (actions : List Action) (first : List ℕ) (ticks : List (List Action)) (acknowledged : ℕ) → old.log.starting ≡ false
       → DoesActions old actions new → (f : Follows disk old first ticks acknowledged) → Keeps new first ticks acknowledged f.images f.place
@@ -190,8 +154,7 @@ module _ {D : Type 0} (disk : Ghosts D) where
         ended = omega (arith, f.ended, length-append ticks (old.running ∷ []));
         count = f.count;
         at_least = f.at_least;
-        in_step = subst (λ i. InStep first more f.count old.content i f.place.journal queue) (sym s.is_newest)
-            (subst (λ j. InStep first more f.count old.content (Newest s.newest) j queue) (sym s.is_writing) in_step);
+        in_step = search rules;
       } in
       subst (λ w. Keeps w first more acknowledged f.images f.place) (sym d.2) (record { follows = is; images_are = refl; place_is = refl })
 
@@ -252,9 +215,7 @@ module _ {D : Type 0} (disk : Ghosts D) where
   -- the log waits for nothing after the start, or with no round in work
   waits_not : (world : World D) (journal : Journal) (left : ℕ) (images : ImageFiles) → HasLog disk world (record { journal = journal; left = left })
       → (world.log.starting ≡ false) ⊎ (round_in images ≡ None) → NoneWaitedFor journal images
-  waits_not world (InStart start) left images stands (inl over) = absurd (let e : true ≡ false = sym stands.in_work ∙ over in cc)
-  waits_not world (InStart start) left images stands (inr none) = none
-  waits_not world (Writing logs) left images stands h = tt
+  waits_not world journal left images stands h = search rules
 
   -- the tick of an open image is covered
   pub cover_follows : EventLaws → KeeperLaws disk → (tick : ℕ) (old : World D) (given : LogAnswer) (new : World D) (first : List ℕ) (ticks : List (List Action)) (acknowledged : ℕ)
@@ -281,8 +242,7 @@ module _ {D : Type 0} (disk : Ghosts D) where
         ended = f.ended;
         count = acknowledged_after f.count given;
         at_least = logged_more acknowledged f.count given f.at_least;
-        in_step = subst (λ i. InStep first ticks (acknowledged_after f.count given) old.content i f.place.journal new.queue) (sym s.is_newest)
-            (subst (λ j. InStep first ticks (acknowledged_after f.count given) old.content (Newest s.newest) j new.queue) (sym s.is_writing) on);
+        in_step = search rules;
       } in (
         subst (λ w. Keeps w first ticks (acknowledged_after acknowledged given) f.images f.place) (sym d.rest) (record { follows = is; images_are = refl; place_is = refl }),
         laws.keeps.cover_receipt first ticks f.count s.newest s.logs old.queue tick given new.queue s.in_step.phase step,

@@ -1,16 +1,16 @@
 -- Steps of a keeper one after another.
-use Rattle.std.proofs.Common.{◌≡◌, ◌⊎◌, ◌<◌, inl, inr, true, false, List, [], ◌∷◌, ◌++◌, length, refl, sym, ap, subst, ◌∙◌, arith}
+use Rattle.std.proofs.Common.{rules}
+use Rattle.std.proofs.Common.{◌≡◌, ◌⊎◌, ◌<◌, true, false, List, [], ◌∷◌, ◌++◌, length, sym, ap, subst, ◌∙◌}
 use Rattle.file_format.specs.declared.slot.Slot.TheVariants.{A}
 use Rattle.disk_model.specs.declared.disk.Disk.{Ghosts}
 use Rattle.image_files.specs.declared.answer.ImageAnswer.{ImageAnswer}
-use Rattle.image_files.specs.declared.phase.Phase.TheVariants.{Idle, Down}
+use Rattle.image_files.specs.declared.phase.Phase.TheVariants.{Idle}
 use Rattle.image_files.specs.Progress.{left_of}
 use Rattle.action_log.specs.declared.answer.LogAnswer.{LogAnswer}
 use Rattle.action_log.specs.declared.phase.Phase.TheVariants.{Ready}
 use Rattle.action_log.specs.declared.record.Record.{Record}
 use Rattle.action_log.specs.declared.progress.Progress.{Progress}
-use Rattle.action_log.specs.Queue.{queue_work}
-use Rattle.action_log.specs.Progress.{rest_in, work_of, taken}
+use Rattle.action_log.specs.Progress.{work_of, taken}
 use Rattle.recovery.specs.Events.{acknowledged_opened, acknowledged_after}
 use Rattle.engine.specs.World.{World}
 use Rattle.engine.specs.Steps.{TakesImageStep, TakesLogStep}
@@ -27,14 +27,7 @@ none_behind (first ∷ front) left e = absurd (let h = ap length e in cc)
 -- a step with work to do, of a log with nothing queued, is one of its start
 pub first_step : (keeper next : Progress) (queue left : List Record) → IsFirst keeper queue → 0 < work_of keeper queue → queue ≡ taken keeper queue ++ left
     → (keeper.starting ≡ true → (next.starting ≡ true) ⊎ ((next.current ≡ A) × (next.phase ≡ Ready))) → IsFirst next left
-first_step keeper next queue left (none, inl starting) some front first = (none_behind (taken keeper queue) left (sym none ∙ front), first starting)
-first_step keeper next queue left (none, inr (slot, ready)) some front first =
-    absurd (let rest = ap (λ p. rest_in p keeper.other_shut) ready in let waits = ap queue_work none in omega (arith, some, rest, waits))
-
--- the start is over
-pub first_over : (keeper : Progress) (queue : List Record) → IsFirst keeper queue → keeper.starting ≡ false → keeper.current ≡ A
-first_over keeper queue (none, inl starting) over = absurd (let e : true ≡ false = sym starting ∙ over in cc)
-first_over keeper queue (none, inr (slot, ready)) over = slot
+first_step keeper next queue left f some front first = search (rules, none_behind)
 
 module _ {D : Type 0} (disk : Ghosts D) where
   -- a step of the fields of an engine is one of its world
@@ -46,16 +39,6 @@ module _ {D : Type 0} (disk : Ghosts D) where
 
   -- ---- the image keeper
 
-  pub no_image_step : (world : World D) → RunsImages disk world world
-  no_image_step world = record {
-    rest = refl;
-    cells = refl;
-    live = refl;
-    ticks = record { in_work = λ not. refl; over = λ idle. inl idle; newest = λ has. has };
-    counts = λ up. inl (up, refl, refl);
-    follows = λ sure first ticks acknowledged f. f;
-  }
-
   pub image_then : EventLaws → (old mid : World D) (given : ImageAnswer) (new : World D) → 0 < left_of mid.images
       → RunsImages disk old mid → TakesImageStep disk mid given new → RunsImages disk old new
   image_then laws old mid given new some r d = record {
@@ -63,8 +46,7 @@ module _ {D : Type 0} (disk : Ghosts D) where
     cells = d.cells ∙ r.cells;
     live = d.live ∙ r.live;
     ticks = tick_step given old.images mid.images new.images d.idle d.goes_on d.down d.ended some r.ticks;
-    counts = image_faults (old.images.phase ≡ Down → ⊥) given mid.images new.images.phase (disk.faults old.files.image_a) (disk.faults mid.files.image_a) (disk.faults new.files.image_a)
-        (disk.faults old.files.image_b) (disk.faults mid.files.image_b) (disk.faults new.files.image_b) r.counts some d.down d.cause;
+    counts = search (rules, image_faults);
     follows = λ sure first ticks acknowledged f.
         (let on = image_follows disk laws mid new given first ticks acknowledged d.rest (d.stands sure) d.cells d.live (r.follows sure first ticks acknowledged f) in
         fewer_follow disk new first ticks (acknowledged_opened acknowledged given) acknowledged (opened_counts acknowledged given) on.follows);
@@ -72,19 +54,9 @@ module _ {D : Type 0} (disk : Ghosts D) where
 
   -- ---- the log keeper
 
-  pub no_log_step : (world : World D) → RunsLog disk world world
-  no_log_step world = record {
-    rest = refl;
-    started = λ over. over;
-    first = λ starting none. (none, inl starting);
-    counts = λ up. inl (up, refl, refl);
-    follows = λ sure turn first ticks acknowledged f. f;
-  }
-
   -- its turn stays its turn
   still_turn : (old mid : World D) → RunsLog disk old mid → (old.log.starting ≡ false) ⊎ (old.images.phase ≡ Idle) → (mid.log.starting ≡ false) ⊎ (mid.images.phase ≡ Idle)
-  still_turn old mid r (inl over) = inl (r.started over)
-  still_turn old mid r (inr idle) = inr (ap (λ (w : World D). w.images.phase) r.rest ∙ idle)
+  still_turn old mid r e = search rules
 
   pub log_then : EventLaws → KeeperLaws disk → (old mid : World D) (given : LogAnswer) (new : World D) → 0 < work_of mid.log mid.queue
       → RunsLog disk old mid → TakesLogStep disk mid given new → RunsLog disk old new
@@ -92,14 +64,9 @@ module _ {D : Type 0} (disk : Ghosts D) where
     rest = d.rest ∙ (λ i. record (r.rest i) { queue = new.queue; log = new.log; files = record (r.rest i).files { log_a = new.files.log_a; log_b = new.files.log_b } });
     started = λ over. d.started (r.started over);
     first = λ starting none. first_step mid.log new.log mid.queue new.queue (r.first starting none) some d.front d.first;
-    counts = log_faults (old.log.down ≡ false) given mid.log.down new.log.down (disk.faults old.files.log_a) (disk.faults mid.files.log_a) (disk.faults new.files.log_a)
-        (disk.faults old.files.log_b) (disk.faults mid.files.log_b) (disk.faults new.files.log_b) r.counts d.down d.cause d.no_fault
-        (λ down. let e = d.rests (inr down) in (ap (λ (k : Progress). k.down) e.0 ∙ down, ap disk.faults e.2, ap disk.faults e.3));
+    counts = search (rules, log_faults);
     follows = λ sure turn first ticks acknowledged f.
         let now = r.follows sure turn first ticks acknowledged f in
-        let on = log_follows disk laws mid new given first ticks acknowledged d.rest (d.stands sure) now (elim (still_turn old mid r turn) [
-          | inl over ↦ inl over
-          | inr idle ↦ inr (keepers.idle mid.images now.images mid.files.image_a mid.files.image_b now.has_images idle)
-        ]) in
+        let on = log_follows disk laws mid new given first ticks acknowledged d.rest (d.stands sure) now (search (rules, still_turn)) in
         fewer_follow disk new first ticks (acknowledged_after acknowledged given) acknowledged (logged_counts acknowledged given) on.follows;
   }

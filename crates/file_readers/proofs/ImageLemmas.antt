@@ -1,10 +1,10 @@
 -- An image reads the same without the bytes after its last word.
+use Rattle.std.proofs.Common.{rules}
 use Rattle.std.proofs.Common.{◌≡◌, ℕ, zero, suc, ◌+◌, ◌-◌, ◌*◌, ◌≤◌, min, inl, inr, true, List, ◌∷◌, length, get_or, take, drop, Option, Some, None, refl, sym, ap, ◌∙◌, arith}
 use Rattle.std.specs.Prelude.{nat_le}
-use Rattle.std.proofs.lemmas.Bool.{cases_lt, cond-true, le-leb}
-use Rattle.std.proofs.lemmas.Bool.Decides.{nat_tests}
+use Rattle.std.proofs.lemmas.Bool.{cases_lt, le-leb}
 use Rattle.std.proofs.lemmas.List.{take-take, take_all, drop-take, length-take-le, length-take, get_or-take}
-use Rattle.image_files.specs.Image.{Image, image_of, open_image, is_open, cells_of, cells_in, tick_in, number_at, words_from}
+use Rattle.image_files.specs.Image.{Image, image_of, open_image, cells_of, cells_in, tick_in, number_at, words_from}
 use Rattle.file_format.specs.Format.{unmarked}
 use Rattle.image_files.proofs.SpellingLemmas.{open_file, cells_found}
 use Rattle.image_files.proofs.WordLemmas.{number_same}
@@ -36,14 +36,11 @@ module _ (file : List ℕ) (n : ℕ) (inside : n ≤ length file) where
 
 opened : (bytes : List ℕ) → 17 ≤ length bytes → get_or bytes 0 0 ≡ 1 → image_of bytes ≡ open_image bytes (cells_in bytes) (tick_in bytes)
 unfolding image_of
-opened bytes long gate =
-    let gate_open : is_open bytes ≡ true = grind (arith, nat_tests) in
-    cond-true (is_open bytes) (open_image bytes (cells_in bytes) (tick_in bytes)) Image.Closed gate_open
+opened bytes long gate = search rules
 
 -- with this number of cells, as read from the header
 open_with : (bytes : List ℕ) (cells : Option ℕ) (tick : ℕ) → 17 ≤ length bytes → get_or bytes 0 0 ≡ 1 → cells_in bytes ≡ cells → tick_in bytes ≡ tick → image_of bytes ≡ open_image bytes cells tick
-open_with bytes cells tick long gate cells_are tick_is =
-    opened bytes long gate ∙ ap (λ (o : Option ℕ). open_image bytes o (tick_in bytes)) cells_are ∙ ap (open_image bytes cells) tick_is
+open_with bytes cells tick long gate cells_are tick_is = search (rules, opened)
 
 module _ (file header : List ℕ) (is : header ≡ take 17 file) (long : 17 ≤ length header) (gate : get_or header 0 0 ≡ 1) where
   inside : 17 ≤ length file

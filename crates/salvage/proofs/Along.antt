@@ -1,16 +1,16 @@
 -- The log along which what is taken is replayed.
-use Rattle.std.proofs.Common.{◌≡◌, ℕ, ◌+◌, ◌⊎◌, inl, inr, Bool, true, false, cond, eqb, ◌||◌, List, [], ◌++◌, length, Option, Some, None, Result, Ok, Err, refl, sym, ap, subst, ◌∙◌, add-zero, eq-eqb}
+use Rattle.std.proofs.Common.{rules}
+use Rattle.std.proofs.Common.{◌≡◌, ℕ, ◌+◌, ◌⊎◌, inl, inr, Bool, true, false, cond, eqb, ◌||◌, List, [], length, Option, Some, None, Result, Ok, Err, refl, sym, ap, subst, ◌∙◌, add-zero, eq-eqb}
 use Rattle.std.specs.Prelude.{IsOk, IfErr, IsErrAnd}
 use Rattle.std.proofs.lemmas.Bool.{cond-true, cond-false, eqb-true}
 use Rattle.std.proofs.lemmas.List.{append-nil}
 use Rattle.world_actions.specs.declared.refusal.Refusal.{Refusal}
 use Rattle.world_actions.specs.declared.refusal.Refusal.TheVariants.{NoImage, BadImage, BadLog}
-use Rattle.world_ticks.specs.After.{and_then}
 use Rattle.image_files.specs.Image.{Image, image_of}
-use Rattle.action_log.specs.Segment.{Tick, joined, Segment, ClosedSegment, MalformedSegment, OpenSegment, IsSegment}
+use Rattle.action_log.specs.Segment.{Tick, joined, Segment, ClosedSegment, OpenSegment, IsSegment}
 use Rattle.action_log.proofs.ReadingLemmas.{reads_once}
 use Rattle.recovery.specs.Recovery.{Recovery, Recovers, Newest, newest, has_base, ticks_from, ticks_along, tail, words_after}
-use Rattle.recovery.specs.Recovery.{recovery_of, recovery_from, recovery_with, replayed, is_bad_image, is_bad_segment}
+use Rattle.recovery.specs.Recovery.{recovery_of, recovery_from, replayed, is_bad_image, is_bad_segment}
 use Rattle.recovery.proofs.Replay.{words_after-append}
 use Rattle.recovery.proofs.Starting.{not_based}
 use Rattle.salvage.specs.declared.log_part.LogPart.{LogPart}
@@ -27,30 +27,16 @@ along_alone t p = append-nil (ticks_from t p)
 
 -- the first segment's ticks don't depend on a second one that is closed
 pub tail_alone : (t : ℕ) (p : Segment) → tail t p ClosedSegment ≡ ticks_from t p
-tail_alone t p = go (has_base t p) refl
-  where
-    go : (b : Bool) → has_base t p ≡ b → tail t p ClosedSegment ≡ ticks_from t p
-    go true h = cond-true (has_base t p) (ticks_along t p ClosedSegment) [] h ∙ along_alone t p
-    go false h = cond-false (has_base t p) (ticks_along t p ClosedSegment) [] h ∙ sym (not_based t p h)
+tail_alone t p = search (rules, cond-true, along_alone, cond-false, not_based)
 
 -- the tail goes along log.b first if log.a doesn't begin there
 pub tail_second : (t : ℕ) (p q : Segment) → has_base t p ≡ false → tail t p q ≡ ticks_along t q p
-tail_second t p q elsewhere = cond-false (has_base t p) (ticks_along t p q) (cond (has_base t q) (ticks_along t q p) []) elsewhere ∙ go (has_base t q) refl
-  where
-    go : (b : Bool) → has_base t q ≡ b → cond (has_base t q) (ticks_along t q p) [] ≡ ticks_along t q p
-    go true h = cond-true (has_base t q) (ticks_along t q p) [] h
-    go false h =
-        let none : ticks_from t q ≡ [] = not_based t q h in
-        let here : t + 0 ≡ t = add-zero t in
-        cond-false (has_base t q) (ticks_along t q p) [] h
-        ∙ sym (ap (λ (l : List Tick). l ++ ticks_from (t + length l) p) none ∙ ap (λ n. ticks_from n p) here ∙ not_based t p elsewhere)
+tail_second t p q elsewhere = search (rules, cond-false, cond-true, not_based, add-zero)
 
 -- it goes along log.a first if that begins there or is closed
 pub tail_first : (t : ℕ) (p q : Segment) → (has_base t p ≡ true) ⊎ (p ≡ ClosedSegment) → tail t p q ≡ ticks_along t p q
 tail_first t p q (inl h) = cond-true (has_base t p) (ticks_along t p q) (cond (has_base t q) (ticks_along t q p) []) h
-tail_first t p q (inr e) =
-    let here : t + 0 ≡ t = add-zero t in
-    subst (λ s. tail t s q ≡ ticks_along t s q) (sym e) (tail_second t ClosedSegment q refl ∙ along_alone t q ∙ ap (λ n. ticks_from n q) (sym here))
+tail_first t p q (inr e) = search (rules, add-zero, tail_second, along_alone)
 
 -- ---- the newest image
 
@@ -99,35 +85,23 @@ nothing_closed s reads = reads_once [] s ClosedSegment reads closed_nothing
 
 -- the images on which recovery gave this answer for empty segments
 pub newest_on : (ia ib : List ℕ) (n : Recovery) → Recovers ia ib [] [] (Ok n) → OnNewest (image_of ia) (image_of ib) n
-newest_on ia ib n e =
-    on_newest (image_of ia) (image_of ib) n
-    (subst (λ s. recovery_of (image_of ia) (image_of ib) s ClosedSegment ≡ Ok n) (nothing_closed e.a e.reads_a)
-    (subst (λ s. recovery_of (image_of ia) (image_of ib) e.a s ≡ Ok n) (nothing_closed e.b e.reads_b) e.holds))
+newest_on ia ib n e = search (rules, on_newest, nothing_closed)
 
 -- ---- what is taken of a segment
 
 -- the reading of what is taken
 pub formed_of : (part : LogPart) (list : List Tick) → is_bad_segment (segment_of part list) ≡ false
 formed_of logs.Closed list = refl
-formed_of (logs.Whole base ticks) list = refl
-formed_of (logs.Cut at base ticks) list = refl
-formed_of logs.Dropped list = refl
+formed_of part list = refl
 
 pub begins_of : (t : ℕ) (part : LogPart) (list : List Tick) → begins_at t part ≡ has_base t (segment_of part list)
 begins_of t logs.Closed list = refl
-begins_of t (logs.Whole base ticks) list = refl
-begins_of t (logs.Cut at base ticks) list = refl
-begins_of t logs.Dropped list = refl
+begins_of t part list = refl
 
 -- what a segment has from a tick is accepted, if all lists that it may have there are
 pub from_accepted : (t : ℕ) (words : List ℕ) (s : Segment) → ((list : List Tick) → s ≡ OpenSegment t list → IsOk (words_after words list)) → IsOk (words_after words (ticks_from t s))
 from_accepted t words ClosedSegment h = refl
-from_accepted t words MalformedSegment h = refl
-from_accepted t words (OpenSegment base list) h = go (eqb base t) refl
-  where
-    go : (b : Bool) → eqb base t ≡ b → IsOk (words_after words (ticks_from t (OpenSegment base list)))
-    go true e = subst (λ l. IsOk (words_after words l)) (sym (cond-true (eqb base t) list [] e)) (h list (ap (λ n. OpenSegment n list) (eqb-true base t e)))
-    go false e = subst (λ l. IsOk (words_after words l)) (sym (cond-false (eqb base t) list [] e)) refl
+from_accepted t words s h = search (rules, eqb, cond-true, eqb-true, cond-false)
 
 -- what is taken reads like this after a replay
 pub record Taken (t : ℕ) (words bytes : List ℕ) (formed part : LogPart) : Type 0 where
@@ -196,33 +170,16 @@ pub record Answers (a b : Image) (n : Recovery) (la lb : Segment) : Type 0 where
 
 pub answers : (a b : Image) (n : Recovery) (la lb : Segment) → OnNewest a b n → is_bad_segment la ≡ false
     → is_bad_segment lb ≡ false → IsOk (words_after n.words (tail n.tick la lb)) → Answers a b n la lb
-answers a b n la lb on fa fb ok =
-    let after = ok_words (words_after n.words (tail n.tick la lb)) ok in
-    let same : tail on.image.tick la lb ≡ tail n.tick la lb = ap (λ t. tail t la lb) on.tick_is in
-    let words : words_after on.image.words (tail on.image.tick la lb) ≡ Ok after.0 = ap (λ w. words_after w (tail on.image.tick la lb)) on.words_are ∙ ap (words_after n.words) same ∙ after.1 in
-    record {
-      answer = record { tick = on.image.tick + length (tail on.image.tick la lb); from = on.image.tick; slot = on.image.slot; words = after.0 };
-      is = on.with_logs la lb fa fb ∙ ap (recovery_with on.image (tail on.image.tick la lb)) words;
-      tick_is = ap (λ t. t + length (tail t la lb)) on.tick_is;
-      words_are = after.1;
-    }
+answers a b n la lb on fa fb ok = search (rules, ok_words)
 
 -- another answer for the same files
 pub not_refused : (ia ib la lb : List ℕ) (n : Recovery) (sa sb : Segment) → IsSegment la sa → IsSegment lb sb
     → Answers (image_of ia) (image_of ib) n sa sb → (refusal : Refusal) → Recovers ia ib la lb (Err refusal) → ⊥
-not_refused ia ib la lb n sa sb ra rb x refusal e =
-    let here : recovery_of (image_of ia) (image_of ib) sa sb ≡ Err refusal =
-    subst (λ s. recovery_of (image_of ia) (image_of ib) s sb ≡ Err refusal) (reads_once la e.a sa e.reads_a ra)
-    (subst (λ s. recovery_of (image_of ia) (image_of ib) e.a s ≡ Err refusal) (reads_once lb e.b sb e.reads_b rb) e.holds) in
-    (let no : Ok x.answer ≡ Err refusal = sym x.is ∙ here in absurd cc)
+not_refused ia ib la lb n sa sb ra rb x refusal e = search (rules, reads_once)
 
 pub same_answer : (ia ib la lb : List ℕ) (n : Recovery) (sa sb : Segment) → IsSegment la sa → IsSegment lb sb
     → (x : Answers (image_of ia) (image_of ib) n sa sb) → (found : Recovery) → Recovers ia ib la lb (Ok found) → x.answer ≡ found
-same_answer ia ib la lb n sa sb ra rb x found e =
-    let here : recovery_of (image_of ia) (image_of ib) sa sb ≡ Ok found =
-    subst (λ s. recovery_of (image_of ia) (image_of ib) s sb ≡ Ok found) (reads_once la e.a sa e.reads_a ra)
-    (subst (λ s. recovery_of (image_of ia) (image_of ib) e.a s ≡ Ok found) (reads_once lb e.b sb e.reads_b rb) e.holds) in
-    ap (from_ok found) (sym x.is ∙ here)
+same_answer ia ib la lb n sa sb ra rb x found e = search (rules, reads_once)
 
 -- ---- only the first segment
 
@@ -231,10 +188,7 @@ module _ (ia ib bytes : List ℕ) (n : Recovery) (formed part : LogPart) (e : Re
   log = segment_of part (taken n.tick n.words bytes formed part k replay).kept.list
 
   alone : Answers (image_of ia) (image_of ib) n log ClosedSegment
-  alone =
-      let t = taken n.tick n.words bytes formed part k replay in
-      answers (image_of ia) (image_of ib) n log ClosedSegment (newest_on ia ib n e) (formed_of part t.kept.list) refl
-      (subst (λ l. IsOk (words_after n.words l)) (sym (tail_alone n.tick log)) t.accepted)
+  alone = search (rules, taken, answers, newest_on, formed_of, tail_alone)
 
   pub first_not_refused : (refusal : Refusal) → Recovers ia ib (kept_log part bytes) [] (Err refusal) → ⊥
   first_not_refused refusal f = not_refused ia ib (kept_log part bytes) [] n log ClosedSegment (taken n.tick n.words bytes formed part k replay).kept.reads closed_nothing alone refusal f
@@ -255,11 +209,7 @@ module _ (ia ib bytes : List ℕ) (n : Recovery) (formed part : LogPart) (e : Re
 -- the ticks along two segments are accepted if those of each are
 along_accepted : (t : ℕ) (words : List ℕ) (s1 s2 : Segment) (reached : ℕ) (reached_words : List ℕ) → reached ≡ t + length (ticks_from t s1) → words_after words (ticks_from t s1) ≡ Ok reached_words
     → IsOk (words_after reached_words (ticks_from reached s2)) → IsOk (words_after words (ticks_along t s1 s2))
-along_accepted t words s1 s2 reached reached_words at first second =
-    let x = ticks_from t s1 in
-    let y = ticks_from (t + length x) s2 in
-    let here : IsOk (words_after reached_words y) = subst (λ m. IsOk (words_after reached_words (ticks_from m s2))) at second in
-    subst (λ r. IsOk r) (sym (words_after-append words x y)) (subst (λ r. IsOk (and_then r (λ next. words_after next y))) (sym first) here)
+along_accepted t words s1 s2 reached reached_words at first second = search (rules, words_after-append)
 
 module _ (n : Recovery) (first second : List ℕ) (formed_first formed_second part_first part_second : LogPart) (k1 : IsKept first formed_first) (k2 : IsKept second formed_second)
     (r : AreReplayed n.tick n.words first second formed_first formed_second part_first part_second) where
@@ -276,12 +226,7 @@ module _ (n : Recovery) (first second : List ℕ) (formed_first formed_second pa
   two = segment_of part_second second_taken.kept.list
 
   pub both_accepted : IsOk (words_after n.words (ticks_along n.tick one two))
-  both_accepted =
-      let log_is : r.reaches.log ≡ one = reads_once (kept_log part_first first) r.reaches.log one r.reaches.reads first_taken.kept.reads in
-      along_accepted n.tick n.words one two r.reached r.reached_words
-      (subst (λ s. r.reached ≡ n.tick + length (ticks_from n.tick s)) log_is r.reaches.reached_is)
-      (subst (λ s. words_after n.words (ticks_from n.tick s) ≡ Ok r.reached_words) log_is r.reaches.replays)
-      second_taken.accepted
+  both_accepted = search (rules, reads_once, first_taken, along_accepted, second_taken)
 
   -- log.a is the first one
   pub answers_first : (ia ib : List ℕ) → Recovers ia ib [] [] (Ok n) → begins_at n.tick formed_first ≡ true → Answers (image_of ia) (image_of ib) n one two

@@ -1,4 +1,5 @@
 -- Segments that are cut after groups.
+use Rattle.std.proofs.Common.{rules}
 use Rattle.std.proofs.Common.{◌≡◌, ℕ, ◌+◌, ◌≤◌, ◌⊎◌, inl, inr, Bool, zero, suc, List, [], ◌∷◌, ◌++◌, length, take, Some, refl, sym, ap, subst, ◌∙◌, append_assoc, arith, length-append}
 use Rattle.std.proofs.lemmas.List.{append-nil, take_at, take-take, length-take-le}
 use Rattle.std.proofs.lemmas.List.Concat.{flat_map-append}
@@ -8,7 +9,7 @@ use Rattle.file_format.specs.declared.format.Format.{Format}
 use Rattle.file_format.specs.Format.{marked_of, marked_in}
 use Rattle.file_format.proofs.NumberLemmas.{length-number_bytes}
 use Rattle.action_log.specs.declared.format.TheConstants.{BASE_BYTES, FIRST_GROUP, HEADER_BYTES}
-use Rattle.action_log.specs.Segment.{Tick, ClosedSegment, MalformedSegment, OpenSegment, IsSegment, IsOpenSegment, IsGroup, group_bytes, joined, spelled_base}
+use Rattle.action_log.specs.Segment.{Tick, ClosedSegment, MalformedSegment, OpenSegment, IsSegment, IsOpenSegment, group_bytes, joined, spelled_base}
 use Rattle.action_log.specs.Extent.{IsExtent}
 use Rattle.action_log.proofs.ReadingLemmas.{mark_again}
 use Rattle.action_log.proofs.ValueReadingLemmas.{found_is}
@@ -71,10 +72,7 @@ module _ (bytes : List ℕ) (base : ℕ) (list : List Tick) (segment : IsOpenSeg
   behind = flat_map group_bytes more ++ segment.rest
 
   is_front : bytes ≡ front ++ behind
-  is_front =
-      segment.spelled ∙ ap (λ g. OPEN_GATE ∷ (spelled_base segment.format base ++ (flat_map group_bytes g ++ segment.rest))) split
-      ∙ ap (λ (l : List ℕ). OPEN_GATE ∷ (spelled_base segment.format base ++ (l ++ segment.rest))) (flat_map-append group_bytes kept more)
-      ∙ ap (λ (l : List ℕ). OPEN_GATE ∷ l) (regroup (spelled_base segment.format base) flat (flat_map group_bytes more) segment.rest)
+  is_front = search (rules, flat_map-append, regroup)
 
   length_front : length front ≡ FIRST_GROUP + length flat
   length_front = omega (arith, length-append (spelled_base segment.format base) flat, length-number_bytes BASE_BYTES (marked_of segment.format base))
@@ -86,29 +84,12 @@ module _ (bytes : List ℕ) (base : ℕ) (list : List Tick) (segment : IsOpenSeg
   fewer = omega (arith, ap length segment.of_groups, ap (λ g. length (joined g)) split, ap length (flat_map-append (λ (group : List Tick). group) kept more), length-append (joined kept) (joined more))
 
   pub cut_segment : 1 ≤ length (joined kept) → IsOpenSegment (take (FIRST_GROUP + length flat) bytes) base (joined kept)
-  cut_segment some =
-      let taken : take (FIRST_GROUP + length flat) bytes ≡ front = ap (take (FIRST_GROUP + length flat)) is_front ∙ take_at front behind (FIRST_GROUP + length flat) length_front in
-      record {
-        format = segment.format;
-        groups = kept;
-        rest = [];
-        are_groups = all_front (IsGroup segment.format) kept more (subst (AllByRecursion (IsGroup segment.format)) split segment.are_groups);
-        ends = tt;
-        spelled = taken ∙ ap (λ (l : List ℕ). OPEN_GATE ∷ (spelled_base segment.format base ++ l)) (sym (append-nil flat));
-        long = omega (arith, ap length taken, length_front, some_bytes kept some);
-        of_groups = refl;
-        few = omega (arith, segment.few, fewer);
-        numbered = omega (arith, segment.numbered, fewer);
-      }
+  cut_segment some = search (rules, is_front, take_at, length_front, all_front, append-nil, some_bytes, fewer)
 
 -- bytes that are kept of kept ones
 take_kept : (formed : LogPart) (bytes : List ℕ) (at : ℕ) → FitsIn formed bytes → 1 ≤ at → at ≤ length (kept_log formed bytes) → (at ≤ length bytes) × (take at (kept_log formed bytes) ≡ take at bytes)
 take_kept logs.Closed bytes at fits some within = (within, refl)
-take_kept (logs.Whole base ticks) bytes at fits some within = (within, refl)
-take_kept (logs.Cut place base ticks) bytes at fits some within =
-    let le : at ≤ place = omega (arith, within, length-take-le place bytes fits) in
-    (omega (arith, le, fits), take-take at place bytes le)
-take_kept logs.Dropped bytes at fits some within = absurd (omega (arith, some, within))
+take_kept formed bytes at fits some within = search (rules, length-take-le, take-take)
 
 -- the bytes that are kept of a refused segment read as a closed one, or as the groups before the refused one
 pub record ReadsBefore (base : ℕ) (kept : List (List Tick)) (bytes : List ℕ) (part : LogPart) : Type 0 where

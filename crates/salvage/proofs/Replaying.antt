@@ -1,19 +1,17 @@
 -- What is left of a segment after a replay.
-use Rattle.std.proofs.Common.{◌≡◌, ℕ, ◌+◌, ◌⊎◌, inl, inr, Bool, true, false, cond, ◌||◌, ltb, List, length, Option, Some, None, refl, sym, ap, subst, ◌∙◌}
+use Rattle.std.proofs.Common.{rules}
+use Rattle.std.proofs.Common.{◌≡◌, ℕ, ◌⊎◌, inl, inr, ltb, List, Option, Some, None, refl, sym, subst}
 use Rattle.std.specs.Prelude.{IsOk}
-use Rattle.world_ticks.specs.declared.tick.TheConstants.{TICK_MAX}
-use Rattle.action_log.specs.declared.format.TheConstants.{SEGMENT_TICKS}
 use Rattle.action_log.specs.declared.reader.HeldLog.{HeldLog}
 use Rattle.action_log.specs.Segment.{Tick, MalformedSegment, OpenSegment, IsSegment, IsOpenSegment}
 use Rattle.action_log.specs.HeldLog.{AreHeld, segment_of_held, within_bounds}
-use Rattle.action_log.specs.Reading.{ticks_of}
 use Rattle.action_log.proofs.ReadingLemmas.{reads_once, held_groups}
 use Rattle.salvage.specs.declared.log_part.LogPart.{LogPart}
-use Rattle.salvage.specs.Parts.{kept_log, segment_of, IsKept}
+use Rattle.salvage.specs.Parts.{kept_log, IsKept}
 use Rattle.salvage.specs.Replay.{IsReplayed}
 use Rattle.salvage.proofs.Forming.{reads_before}
 use Rattle.salvage.proofs.Along.{formed_of}
-use Rattle.recovery.specs.Recovery.{is_bad_segment, words_after}
+use Rattle.recovery.specs.Recovery.{words_after}
 
 same_list : (bytes : List ℕ) (base tick : ℕ) (ticks list : List Tick) → IsSegment bytes (OpenSegment base ticks) → IsSegment bytes (OpenSegment tick list) → (base ≡ tick) × (ticks ≡ list)
 same_list bytes base tick ticks list a b = (let same : OpenSegment base ticks ≡ OpenSegment tick list = reads_once bytes (OpenSegment base ticks) (OpenSegment tick list) a b in (cc, cc))
@@ -30,21 +28,12 @@ stays_elsewhere tick words bytes formed held h ne = inl (refl, λ list s. absurd
 
 within_is : (base : ℕ) (read : Option (List Tick)) → (within_bounds base read ≡ MalformedSegment) ⊎ ((ticks : List Tick) × (within_bounds base read ≡ OpenSegment base ticks))
 within_is base None = inl refl
-within_is base (Some ticks) = go (ltb SEGMENT_TICKS (length ticks) || ltb TICK_MAX (base + length ticks))
-  where
-    go : (b : Bool) → (cond b MalformedSegment (OpenSegment base ticks) ≡ MalformedSegment) ⊎ ((t : List Tick) × (cond b MalformedSegment (OpenSegment base ticks) ≡ OpenSegment base t))
-    go true = inl refl
-    go false = inr (ticks, refl)
+within_is base (Some ticks) = search (rules, ltb)
 
 -- what is kept of a segment with an open header is open
 pub kept_open : (bytes : List ℕ) (formed : LogPart) (held : HeldLog) → IsKept bytes formed → IsSegment (kept_log formed bytes) (segment_of_held held)
     → (ticks : List Tick) × IsOpenSegment (kept_log formed bytes) held.base ticks
-kept_open bytes formed held k reads =
-    let same : segment_of formed k.list ≡ segment_of_held held = reads_once (kept_log formed bytes) (segment_of formed k.list) (segment_of_held held) k.reads reads in
-    elim (within_is held.base (ticks_of held.format held.groups.now)) [
-      | inl bad ↦ (let no : false ≡ true = sym (formed_of formed k.list) ∙ ap is_bad_segment (same ∙ bad) in absurd cc)
-      | inr opened ↦ (opened.0, subst (IsSegment (kept_log formed bytes)) opened.1 reads)
-    ]
+kept_open bytes formed held k reads = search (rules, reads_once, within_is, formed_of)
 
 pub kept_replayed : (tick : ℕ) (words bytes : List ℕ) (formed part : LogPart) → IsKept bytes formed → IsReplayed tick words bytes formed part → IsKept bytes part
 kept_replayed tick words bytes formed part k (inl stays) = subst (IsKept bytes) (sym stays.0) k

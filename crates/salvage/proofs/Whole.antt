@@ -1,16 +1,15 @@
 -- What is taken of files, and of files that recovery accepts.
-use Rattle.std.proofs.Common.{◌≡◌, ℕ, ◌+◌, ◌⊎◌, inl, inr, Bool, true, false, cond, ◌||◌, List, [], ◌++◌, length, Result, Ok, Err, refl, sym, ap, subst, ◌∙◌, eq-eqb}
+use Rattle.std.proofs.Common.{rules}
+use Rattle.std.proofs.Common.{◌≡◌, ℕ, ◌+◌, ◌⊎◌, inl, inr, true, false, List, [], ◌++◌, length, Result, Ok, Err, refl, sym, ap, subst, ◌∙◌, eq-eqb}
 use Rattle.std.specs.Prelude.{IsOk, IsErr}
 use Rattle.std.proofs.lemmas.Bool.{cond-true}
 use Rattle.world_actions.specs.declared.refusal.Refusal.{Refusal}
-use Rattle.world_actions.specs.declared.refusal.Refusal.TheVariants.{BadImage, BadLog}
 use Rattle.world_ticks.specs.After.{and_then}
-use Rattle.image_files.specs.Image.{Image, Closed, Bad, Open, image_of}
-use Rattle.image_files.specs.Reading.{IsOpenImage}
-use Rattle.action_log.specs.Segment.{Tick, joined, Segment, MalformedSegment, OpenSegment, IsSegment}
+use Rattle.image_files.specs.Image.{Image, Closed, Bad, image_of}
+use Rattle.action_log.specs.Segment.{Tick, joined, Segment, OpenSegment, IsSegment}
 use Rattle.action_log.proofs.ReadingLemmas.{reads_once}
 use Rattle.action_log.proofs.ReplayLemmas.{refused_at}
-use Rattle.recovery.specs.Recovery.{Recovery, Recovers, newest, has_base, ticks_from, ticks_along, tail, words_after, recovery_of, recovery_from, recovery_with, is_bad_image, is_bad_segment}
+use Rattle.recovery.specs.Recovery.{Recovery, Recovers, has_base, ticks_from, ticks_along, tail, words_after, recovery_of, is_bad_image, is_bad_segment}
 use Rattle.recovery.proofs.Replay.{words_after-append}
 use Rattle.salvage.specs.declared.image_part.ImagePart.{ImagePart}
 use Rattle.salvage.specs.declared.image_part.ImagePart.TheVariants as images
@@ -33,20 +32,12 @@ apart image h k = (let e : Closed ≡ Bad = sym h ∙ k in absurd cc)
 -- what is taken of an image isn't bad
 pub kept_good : (bytes : List ℕ) (part : ImagePart) → IsImagePart bytes part → image_of (kept_image part bytes) ≡ Bad → ⊥
 kept_good bytes images.Closed is bad = apart (image_of bytes) is bad
-kept_good bytes (images.Whole tick) is bad = (let e : Open tick is.0 ≡ Bad = sym is.1 ∙ bad in absurd cc)
-kept_good bytes images.Dropped is bad = apart (image_of []) closed_image bad
-
--- an image that is open is taken
-pub not_open : (bytes : List ℕ) (part : ImagePart) → IsImagePart bytes part → (IsOpenImage (image_of (kept_image part bytes)) → ⊥) → IsOpenImage (image_of bytes) → ⊥
-not_open bytes images.Closed is none o = none o
-not_open bytes (images.Whole tick) is none o = none o
-not_open bytes images.Dropped is none o = (let e : Open o.0 o.1 ≡ Bad = sym o.2 ∙ is in absurd cc)
+kept_good bytes part is bad = search (rules, apart, closed_image)
 
 -- an image that isn't bad is taken as it is
 good_taken : (bytes : List ℕ) (part : ImagePart) → IsImagePart bytes part → is_bad_image (image_of bytes) ≡ false → IsImageTaken part × (kept_image part bytes ≡ bytes)
-good_taken bytes images.Closed is good = (tt, refl)
-good_taken bytes (images.Whole tick) is good = (tt, refl)
 good_taken bytes images.Dropped is good = (let e : true ≡ false = sym (ap is_bad_image is) ∙ good in absurd cc)
+good_taken bytes part is good = (tt, refl)
 
 -- ---- what is taken can be recovered
 
@@ -82,11 +73,7 @@ from_here t list = cond-true _ list [] (eq-eqb t t refl)
 
 -- the front of accepted ticks is accepted
 front_accepted : (world : List ℕ) (front more : List Tick) → IsOk (words_after world (front ++ more)) → IsOk (words_after world front)
-front_accepted world front more ok = go (words_after world front) (subst (λ r. IsOk r) (words_after-append world front more) ok)
-  where
-    go : (r : Result (List ℕ) Refusal) → IsOk (and_then r (λ next. words_after next more)) → IsOk r
-    go (Ok next) ok = refl
-    go (Err refusal) ok = absurd cc
+front_accepted world front more ok = search (rules, words_after-append)
 
 -- no action of an accepted segment is refused
 none_refused : (t : ℕ) (words bytes : List ℕ) (part : LogPart) (s : Segment) → IsSegment bytes s → IsOk (words_after words (ticks_from t s)) → IsRefused t words bytes part → ⊥
@@ -122,12 +109,7 @@ both_stay n first second f1 f2 p1 p2 s1 s2 reads1 reads2 r ok =
 -- a segment that isn't malformed is taken as it is
 formed_taken : (bytes : List ℕ) (part : LogPart) (s : Segment) → IsFormed bytes part → IsSegment bytes s → is_bad_segment s ≡ false → IsLogTaken part × (kept_log part bytes ≡ bytes)
 formed_taken bytes logs.Closed s is reads good = (tt, refl)
-formed_taken bytes (logs.Whole base ticks) s is reads good = (tt, refl)
-formed_taken bytes (logs.Cut at base ticks) s is reads good = absurd (not_malformed bytes s reads is.0 good)
-  where
-    not_malformed : (bytes : List ℕ) (s : Segment) → IsSegment bytes s → IsSegment bytes MalformedSegment → is_bad_segment s ≡ false → ⊥
-    not_malformed bytes s reads bad good = (let e : true ≡ false = sym (ap is_bad_segment (reads_once bytes s MalformedSegment reads bad)) ∙ good in absurd cc)
-formed_taken bytes logs.Dropped s is reads good = (let e : true ≡ false = sym (ap is_bad_segment (reads_once bytes s MalformedSegment reads is.0)) ∙ good in absurd cc)
+formed_taken bytes part s is reads good = search (rules, reads_once)
 
 -- the tests of recovery before its answer
 record Passed (a b : Image) (la lb : Segment) : Type 0 where
@@ -137,26 +119,12 @@ record Passed (a b : Image) (la lb : Segment) : Type 0 where
   formed_b : is_bad_segment lb ≡ false
 
 passed : (a b : Image) (la lb : Segment) (r : Recovery) → recovery_of a b la lb ≡ Ok r → Passed a b la lb
-passed a b la lb r e = go (is_bad_image a) (is_bad_image b) (is_bad_segment la) (is_bad_segment lb) refl refl refl refl e
-  where
-    go : (x y z w : Bool) → is_bad_image a ≡ x → is_bad_image b ≡ y → is_bad_segment la ≡ z → is_bad_segment lb ≡ w
-        → cond (is_bad_image a || is_bad_image b) (Err BadImage) (cond (is_bad_segment la || is_bad_segment lb) (Err BadLog) (recovery_from (newest a b) la lb)) ≡ Ok r → Passed a b la lb
-    go true y z w hx hy hz hw e = (let k = rw hx at e in absurd cc)
-    go false true z w hx hy hz hw e = (let k = rw (hx, hy) at e in absurd cc)
-    go false false true w hx hy hz hw e = (let k = rw (hx, hy, hz) at e in absurd cc)
-    go false false false true hx hy hz hw e = (let k = rw (hx, hy, hz, hw) at e in absurd cc)
-    go false false false false hx hy hz hw e = record { good_a = hx; good_b = hy; formed_a = hz; formed_b = hw }
+passed a b la lb r e = search rules
 
 -- the tail of an answer is accepted
 tail_accepted : (a b : Image) (n : Recovery) (la lb : Segment) (r : Recovery) → OnNewest a b n → is_bad_segment la ≡ false
     → is_bad_segment lb ≡ false → recovery_of a b la lb ≡ Ok r → IsOk (words_after n.words (tail n.tick la lb))
-tail_accepted a b n la lb r on fa fb e =
-    let there : IsOk (words_after on.image.words (tail on.image.tick la lb)) = go (words_after on.image.words (tail on.image.tick la lb)) (sym (on.with_logs la lb fa fb) ∙ e) in
-    subst (λ t. IsOk (words_after n.words (tail t la lb))) on.tick_is (subst (λ w. IsOk (words_after w (tail on.image.tick la lb))) on.words_are there)
-  where
-    go : (x : Result (List ℕ) Refusal) → recovery_with on.image (tail on.image.tick la lb) x ≡ Ok r → IsOk x
-    go (Ok words) h = refl
-    go (Err refusal) h = absurd cc
+tail_accepted a b n la lb r on fa fb e = search rules
 
 -- all of the files is taken if recovery accepts them, and the answer is the same
 pub record TakenWhole (image_a image_b log_a log_b : List ℕ) (image_part_a image_part_b : ImagePart) (part_a part_b : LogPart) : Type 0 where
@@ -214,13 +182,8 @@ from_ok n (Ok answer) = answer
 from_ok n (Err refusal) = n
 
 pub one_answer : (image_a image_b log_a log_b : List ℕ) (x y : Recovery) → Recovers image_a image_b log_a log_b (Ok x) → Recovers image_a image_b log_a log_b (Ok y) → x ≡ y
-one_answer image_a image_b log_a log_b x y e f =
-    let here : recovery_of (image_of image_a) (image_of image_b) f.a f.b ≡ Ok x =
-    subst (λ s. recovery_of (image_of image_a) (image_of image_b) s f.b ≡ Ok x) (reads_once log_a e.a f.a e.reads_a f.reads_a)
-    (subst (λ s. recovery_of (image_of image_a) (image_of image_b) e.a s ≡ Ok x) (reads_once log_b e.b f.b e.reads_b f.reads_b) e.holds) in
-    ap (from_ok x) (sym here ∙ f.holds)
+one_answer image_a image_b log_a log_b x y e f = search (rules, reads_once)
 
 -- the same for other names of the bytes
 pub recovers_on : {a b c d a2 b2 c2 d2 : List ℕ} (x : Result Recovery Refusal) → a ≡ a2 → b ≡ b2 → c ≡ c2 → d ≡ d2 → Recovers a b c d x → Recovers a2 b2 c2 d2 x
-recovers_on {a} {b} {c} {d} {a2} {b2} {c2} {d2} x ea eb ec ed e =
-    subst (λ f. Recovers f b2 c2 d2 x) ea (subst (λ f. Recovers a f c2 d2 x) eb (subst (λ f. Recovers a b f d2 x) ec (subst (λ f. Recovers a b c f x) ed e)))
+recovers_on {a} {b} {c} {d} {a2} {b2} {c2} {d2} x ea eb ec ed e = search rules

@@ -1,4 +1,5 @@
 -- A session advances by whole batches.
+use Rattle.std.proofs.Common.{rules}
 use Rattle.std.proofs.Common.{arith, refl, sym, ap, subst, ◌∙◌, ◌≡◌, ℕ, ◌<◌, ◌≤◌, List, [], ◌∷◌, ◌++◌, append_assoc, append-nil, length, take, drop, Bool, true, false, Option, Result}
 use Rattle.std.proofs.lemmas.Bool.Decides.{nat_tests}
 use Rattle.std.proofs.lemmas.List.{length-append, take-append-drop}
@@ -46,36 +47,16 @@ module _ {S : Type 0} (runs : S → List Request → Result (List ℕ) Refusal �
   -- the session of an input all of whose batches are answered
   session_of : (first last : S) (input written : List ℕ) (batches : List (List Request)) (early : Bool) → IsMeant input batches early
       → Answers runs first batches written last → IsSession runs first input (written ++ early_end early) last early
-  session_of first last input written batches early t answered = record {
-    meanings = t.meanings;
-    mean = t.mean;
-    answers = written;
-    answered = subst (λ b. Answers runs first b written last) (sym t.answered) answered;
-    early_is = sym t.early_is;
-    text_is = refl;
-  }
+  session_of first last input written batches early t answered = search rules
 
   -- the same, and then the output breaks off
   cut_off_after : (first now last : S) (input written part : List ℕ) (batches : List (List Request)) (early : Bool) → IsMeant input batches early
       → Answers runs first batches written now → BrokenOff runs now [] early part last → IsCutOff runs first input (written ++ part) last
-  cut_off_after first now last input written part batches early t answered broken = record {
-    meanings = t.meanings;
-    mean = t.mean;
-    done = batches;
-    later = [];
-    split = t.answered ∙ sym (append-nil batches);
-    now = now;
-    answers = written;
-    answered = answered;
-    part = part;
-    written_is = refl;
-    broken = subst (λ (e : Bool). BrokenOff runs now [] e part last) (sym t.early_is) broken;
-  }
+  cut_off_after first now last input written part batches early t answered broken = search rules
 
   Answers-snoc : (first now next : S) (batches : List (List Request)) (batch : List Request) (given : Result (List ℕ) Refusal) (text : List ℕ)
       → Answers runs first batches text now → runs now batch given next → Answers runs first (batches ++ batch ∷ []) (text ++ line_of given) next
-  Answers-snoc first now next [] batch given text answered run =
-      (given, next, [], subst (λ s. runs s batch given next) answered.1 run, (refl, refl), ap (λ t. t ++ line_of given) answered.0 ∙ sym (append-nil (line_of given)))
+  Answers-snoc first now next [] batch given text answered run = search rules
   Answers-snoc first now next (head ∷ batches) batch given text answered run = (
     answered.0,
     answered.1,
@@ -87,35 +68,11 @@ module _ {S : Type 0} (runs : S → List Request → Result (List ℕ) Refusal �
   )
 
   pub stands_fresh : (first : S) (reading : Reading) → IsBegun [] reading → Stands runs first [] reading first []
-  stands_fresh first reading begun = record {
-    before = [];
-    begun = [];
-    split = refl;
-    meanings = [];
-    lines = lines_none;
-    batches = [];
-    batches_are = refl;
-    fit = tt;
-    answered = (refl, refl);
-    reads = begun;
-  }
+  stands_fresh first reading begun = search (rules, lines_none)
 
   -- no batch has ended
   pub goes_more : (now : S) (old new : Reading) (piece : List ℕ) → ((before : List ℕ) → IsBegun before old → IsBegun (before ++ piece) new) → Goes runs now old piece new now []
-  goes_more now old new piece more = record {
-    on = λ first read prior s. record {
-      before = s.before;
-      begun = s.begun ++ piece;
-      split = ap (λ l. l ++ piece) s.split ∙ append_assoc s.before s.begun piece;
-      meanings = s.meanings;
-      lines = s.lines;
-      batches = s.batches;
-      batches_are = s.batches_are;
-      fit = s.fit;
-      answered = subst (λ t. Answers runs first s.batches t now) (sym (append-nil prior)) s.answered;
-      reads = more s.begun s.reads;
-    };
-  }
+  goes_more now old new piece more = search (rules, append_assoc, append-nil)
 
   -- one part after the other
   pub goes_then : (now middle last : S) (old between new : Reading) (bytes more written rest : List ℕ) → Goes runs now old bytes between middle written → Goes runs middle between more new last rest
@@ -161,8 +118,7 @@ module _ (some : (line : List ℕ) → (meaning : Option Command) × Means line 
 late : (requests : List Request) (ended : List (List Request)) (rest : List Request) → 1024 < length requests
     → (answered_in (added [] requests ended rest).ended ≡ []) × (ends_early (added [] requests ended rest).ended (added [] requests ended rest).rest ≡ true)
 late requests [] rest many = (refl, long_test (requests ++ rest) (simp length-append (omega arith)))
-late requests (batch ∷ batches) rest many =
-    (let long : is_too_long (requests ++ batch) ≡ true = long_test (requests ++ batch) (simp length-append (omega arith)) in (rw long refl, rw long refl))
+late requests (batch ∷ batches) rest many = search (rules, long_test, length-append)
 
 module _ {S : Type 0} (runs : S → List Request → Result (List ℕ) Refusal → S → Type 0) (some : (line : List ℕ) → (meaning : Option Command) × Means line meaning) where
   -- the lines of all bytes that were read, some of them after the batch that has begun

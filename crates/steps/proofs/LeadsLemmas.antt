@@ -18,7 +18,7 @@ use Rattle.world_core.specs.Facts.{IsCoreAt}
 use Rattle.world_core.specs.Repeating.{AreLeft, RepeatsImages, RepeatsLog, RunsStart}
 use Rattle.steps.specs.declared.line.Line.{Line}
 use Rattle.steps.specs.declared.line.Method.{Method}
-use Rattle.steps.specs.declared.line.Line.TheVariants.{Open, Command, Mark, Image, Log, Cover, Images, Logs, Crash, World}
+use Rattle.steps.specs.declared.line.Line.TheVariants.{Open, Cover, Images, Logs, Crash}
 use Rattle.steps.specs.Text.{answer_text}
 use Rattle.steps.specs.Script.{Opened, method_after, LineRuns}
 use Rattle.steps.specs.Played.{Played, Opens, Moves, Plays, Runs, Starts}
@@ -70,15 +70,8 @@ logs_lead line fate old new reported is repeats =
 -- a start after an answer that is no refusal
 pub starts_run : (given : Answer) (from to : Played) → ((refusal : Refusal) → given ≢ answer.Refused refusal)
     → RunsStart from.past from.state to.past to.state → Starts given from to
-starts_run answer.Did from to accepted starts = starts
-starts_run (answer.Word word) from to accepted starts = starts
-starts_run (answer.Ended tick) from to accepted starts = starts
-starts_run (answer.Started tick) from to accepted starts = starts
-starts_run (answer.Image given) from to accepted starts = starts
-starts_run (answer.Log given) from to accepted starts = starts
-starts_run (answer.Recovered tick start) from to accepted starts = starts
-starts_run answer.Blank from to accepted starts = starts
 starts_run (answer.Refused refusal) from to accepted starts = absurd (accepted refusal refl)
+starts_run given from to accepted starts = starts
 
 -- and no start after a refusal
 pub starts_not : (given : Answer) (refusal : Refusal) (from to : Played) → given ≡ answer.Refused refusal → to ≡ from → Starts given from to
@@ -159,12 +152,4 @@ spoken_leads meaning line core old new said means is leads method = rw (means, i
 -- a line that opens no core leaves the method as it is
 pub method_stays : (line : Line) (method : Method) → ((other : Method) (cells : ℕ) → line ≢ Open other cells) → method ≡ method_after method line
 method_stays (Open method cells) kept other = absurd (other method cells refl)
-method_stays (Command command) kept other = refl
-method_stays Mark kept other = refl
-method_stays Image kept other = refl
-method_stays Log kept other = refl
-method_stays Cover kept other = refl
-method_stays (Images fate) kept other = refl
-method_stays (Logs fate) kept other = refl
-method_stays (Crash leaving) kept other = refl
-method_stays World kept other = refl
+method_stays line kept other = refl

@@ -6,7 +6,7 @@ use Rattle.std.proofs.lemmas.Bool.Decides.{nat_tests}
 use Rattle.std.proofs.lemmas.Fmt.{decimal_injective, length-decimal-le}
 use Rattle.std.proofs.lemmas.List.{length-append}
 use Rattle.world_actions.specs.declared.world.TheConstants.{CELLS}
-use Rattle.world_actions.specs.declared.action.Action.TheVariants.{Set, Add, Transfer, Swap, Cap}
+use Rattle.world_actions.specs.declared.action.Action.TheVariants.{Set}
 use Rattle.line_grammar.specs.declared.command.Command.{Command}
 use Rattle.line_grammar.specs.declared.command.Command.TheVariants as command
 use Rattle.line_grammar.specs.declared.command.TheConstants.{LINE_BYTES}
@@ -52,25 +52,10 @@ text_kind text =
 text_kind-line_spelling : (l : Line) → text_kind (line_spelling l) ≡ kind_of l
 unfolding text_kind kind_of
 text_kind-line_spelling (line.Command (command.Act (Set cell value))) = refl
-text_kind-line_spelling (line.Command (command.Act (Add cell by))) = refl
-text_kind-line_spelling (line.Command (command.Act (Transfer from to amount))) = refl
-text_kind-line_spelling (line.Command (command.Act (Swap a b))) = refl
-text_kind-line_spelling (line.Command (command.Act (Cap cell value))) = refl
-text_kind-line_spelling (line.Command (command.Get cell)) = refl
-text_kind-line_spelling (line.Command command.End) = refl
-text_kind-line_spelling (line.Open method cells) = refl
-text_kind-line_spelling line.World = refl
-text_kind-line_spelling line.Image = refl
 text_kind-line_spelling (line.Images Done) = refl
-text_kind-line_spelling line.Log = refl
 text_kind-line_spelling (line.Logs Done) = refl
-text_kind-line_spelling (line.Logs Failed) = refl
-text_kind-line_spelling (line.Images Failed) = refl
 text_kind-line_spelling (line.Crash Lose) = refl
-text_kind-line_spelling (line.Crash Keep) = refl
-text_kind-line_spelling (line.Crash (Fill byte)) = refl
-text_kind-line_spelling line.Mark = refl
-text_kind-line_spelling line.Cover = refl
+text_kind-line_spelling l = refl
 
 same_kind : (a b : Line) → line_spelling a ≡ line_spelling b → kind_of a ≡ kind_of b
 same_kind a b is = sym (text_kind-line_spelling a) ∙ (ap text_kind is ∙ text_kind-line_spelling b)
@@ -85,17 +70,11 @@ method_at text =
 method_at-method_word : (method : Method) (rest : List ℕ) → method_at (method_word method ++ (32 ∷ rest)) ≡ method
 unfolding method_at
 method_at-method_word Plain rest = refl
-method_at-method_word Zigzag rest = refl
-method_at-method_word PingPong rest = refl
-method_at-method_word ZigzagShared rest = refl
-method_at-method_word PingPongShared rest = refl
+method_at-method_word method rest = refl
 
 rest_injective : (method : Method) (x y : List ℕ) → method_word method ++ (32 ∷ x) ≡ method_word method ++ (32 ∷ y) → x ≡ y
 rest_injective Plain x y is = cc
-rest_injective Zigzag x y is = cc
-rest_injective PingPong x y is = cc
-rest_injective ZigzagShared x y is = cc
-rest_injective PingPongShared x y is = cc
+rest_injective method x y is = cc
 
 -- no two methods and numbers are spelled the same
 method_injective : (a b : Method) (x y : List ℕ) → method_word a ++ (32 ∷ x) ≡ method_word b ++ (32 ∷ y) → (a ≡ b) × (x ≡ y)
@@ -220,10 +199,7 @@ CommandsAreShort = (command : Command) → IsInBounds command → length (spelli
 -- every line with a meaning is short too
 length-method_word : (method : Method) → length (method_word method) ≤ 15
 length-method_word Plain = lit≤ tt
-length-method_word Zigzag = lit≤ tt
-length-method_word PingPong = lit≤ tt
-length-method_word ZigzagShared = lit≤ tt
-length-method_word PingPongShared = lit≤ tt
+length-method_word method = lit≤ tt
 
 line_length : CommandsAreShort → (l : Line) → LineIsInBounds l → length (line_spelling l) ≤ LINE_BYTES
 line_length short (line.Open method n) bounds =
@@ -232,18 +208,10 @@ line_length short (line.Open method n) bounds =
     let word = length-method_word method in
     simp length-append (omega (arith, digits, word))
 line_length short (line.Command command) bounds = short command bounds
-line_length short line.Mark bounds = lit≤ tt
-line_length short line.Image bounds = lit≤ tt
-line_length short line.Log bounds = lit≤ tt
-line_length short line.Cover bounds = lit≤ tt
 line_length short (line.Images Done) bounds = lit≤ tt
-line_length short (line.Images Failed) bounds = lit≤ tt
 line_length short (line.Logs Done) bounds = lit≤ tt
-line_length short (line.Logs Failed) bounds = lit≤ tt
 line_length short (line.Crash Lose) bounds = lit≤ tt
-line_length short (line.Crash Keep) bounds = lit≤ tt
-line_length short (line.Crash (Fill byte)) bounds = lit≤ tt
-line_length short line.World bounds = lit≤ tt
+line_length short l bounds = lit≤ tt
 
 -- the kept bytes of a line mean what the line means
 pub kept_means : CommandsAreShort → (kept : List ℕ) (meaning : Option Line) → LineMeans kept meaning → KeptMeans LineMeans kept meaning

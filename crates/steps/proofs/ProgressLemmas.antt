@@ -11,7 +11,7 @@ use Rattle.line_grammar.proofs.KeptLemmas.{kept_of-snoc, HasNoNewline-snoc}
 use Rattle.steps.specs.declared.line.Line.{Line}
 use Rattle.steps.specs.Line.{LineMeans}
 use Rattle.steps.specs.OpenCore.{OpenState}
-use Rattle.steps.specs.Script.{lines_of, Replies, IsCutOff}
+use Rattle.steps.specs.Script.{lines_of, IsCutOff}
 use Rattle.steps.specs.Progress.{ScriptState, LineLeads, Stands, LeadsOn, Completes, BreaksOff}
 use Rattle.steps.proofs.ScriptLemmas.{lines_of-line, lines_of-last, Replies-snoc, cut_text, cut_off}
 

@@ -57,19 +57,9 @@ LineIsInBounds line = Unit {0}
 abbrev pub LineMeans : List ℕ → Option Line → Type 0
 LineMeans = IsReading line_spelling LineIsInBounds
 
--- A line that has no number and isn't a client's. `IsLongWord` has those of many steps and the
--- crashes, and `IsWord` has all.
-abbrev pub IsLongWord : Line → Type 0
-IsLongWord (Images fate) = Unit {0}
-IsLongWord (Logs fate) = Unit {0}
-IsLongWord (Crash Lose) = Unit {0}
-IsLongWord (Crash Keep) = Unit {0}
-IsLongWord line = ⊥
-
+-- a line that has no number and isn't a client's
 abbrev pub IsWord : Line → Type 0
-IsWord Mark = Unit {0}
-IsWord Image = Unit {0}
-IsWord Log = Unit {0}
-IsWord Cover = Unit {0}
-IsWord World = Unit {0}
-IsWord line = IsLongWord line
+IsWord (Open method cells) = ⊥
+IsWord (Command command) = ⊥
+IsWord (Crash (Fill byte)) = ⊥
+IsWord line = Unit {0}

@@ -49,7 +49,7 @@ ghost use Rattle.std.specs.Prelude.{Option};
 ghost use Rattle.line_grammar.specs.Reading.{IsReading};
 ghost use Rattle.steps.specs.declared.line.Method.{Method};
 ghost use Rattle.steps.specs.declared.line.Line.{Line};
-ghost use Rattle.steps.specs.Line.{LineMeans, IsWord, IsLongWord, line_spelling, method_word};
+ghost use Rattle.steps.specs.Line.{LineMeans, IsWord, line_spelling, method_word};
 ghost use Rattle.steps.specs.Line.{hex_digit, hex_text};
 
 /// Reads a line, without its newline. Returns `None` if it isn't of the grammar.
@@ -137,46 +137,18 @@ fn read_word(line: &[u8]) -> Option<Line>
     ensures found { IfSome result (λ word. IsWord word × (line.now ≡ line_spelling word)) }
     ensures none { IfNone result ((word : Line) → IsWord word → line.now ≢ line_spelling word) }
 {
-    if line == b"mark".as_slice() {
-        return Some(Line::Mark);
+    match line {
+        b"mark" => Some(Line::Mark),
+        b"image" => Some(Line::Image),
+        b"log" => Some(Line::Log),
+        b"cover" => Some(Line::Cover),
+        b"world" => Some(Line::World),
+        b"image*" => Some(Line::Images(Fate::Done)),
+        b"fail image" => Some(Line::Images(Fate::Failed)),
+        b"log*" => Some(Line::Logs(Fate::Done)),
+        b"fail log" => Some(Line::Logs(Fate::Failed)),
+        b"crash lose" => Some(Line::Crash(Leaving::Lose)),
+        b"crash keep" => Some(Line::Crash(Leaving::Keep)),
+        _ => None,
     }
-    if line == b"image".as_slice() {
-        return Some(Line::Image);
-    }
-    if line == b"log".as_slice() {
-        return Some(Line::Log);
-    }
-    if line == b"cover".as_slice() {
-        return Some(Line::Cover);
-    }
-    if line == b"world".as_slice() {
-        return Some(Line::World);
-    }
-    read_long_word(line)
-}
-
-// Reads such a line that asks for many steps or for a crash.
-fn read_long_word(line: &[u8]) -> Option<Line>
-    ensures found { IfSome result (λ word. IsLongWord word × (line.now ≡ line_spelling word)) }
-    ensures none { IfNone result ((word : Line) → IsLongWord word → line.now ≢ line_spelling word) }
-{
-    if line == b"image*".as_slice() {
-        return Some(Line::Images(Fate::Done));
-    }
-    if line == b"fail image".as_slice() {
-        return Some(Line::Images(Fate::Failed));
-    }
-    if line == b"log*".as_slice() {
-        return Some(Line::Logs(Fate::Done));
-    }
-    if line == b"fail log".as_slice() {
-        return Some(Line::Logs(Fate::Failed));
-    }
-    if line == b"crash lose".as_slice() {
-        return Some(Line::Crash(Leaving::Lose));
-    }
-    if line == b"crash keep".as_slice() {
-        return Some(Line::Crash(Leaving::Keep));
-    }
-    None
 }

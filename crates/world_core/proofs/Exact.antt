@@ -41,10 +41,6 @@ true_iff : (b : Bool) (n : ℕ) → IsTrue b ↔ (0 < n) → b ≡ nat_lt 0 n
 true_iff true n h = sym (lt-ltb 0 n (h.0 refl))
 true_iff false n h = not_lt n (λ e. (let g : false ≡ true = h.1 e in absurd (let q = g in cc)))
 
-idle_or_not : (p : Phase) → (is_in_round p ≡ false → p ≡ Idle)
-idle_or_not Idle e = refl
-idle_or_not p e = absurd (let g = e in cc)
-
 in_round : (p : Phase) (opened : Bool) → (p ≡ Idle → opened ≡ false) → ((p ≡ Idle → ⊥) → opened ≡ true) → is_in_round p ≡ opened
 in_round Idle o none some = sym (none refl)
 in_round p o none some = sym (some (λ e. let g = e in cc))

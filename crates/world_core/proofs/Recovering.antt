@@ -29,6 +29,8 @@ use Rattle.engine.specs.World.{IsInOrder}
 use Rattle.engine.specs.Laws.{EventLaws}
 use Rattle.engine.proofs.Beginning.{started_cells}
 use Rattle.world_core.specs.State.{State, files_in, core_disk}
+use Rattle.std.proofs.Common.{rules}
+use Rattle.world_core.specs.Stepped.{Stepped}
 use Rattle.world_core.specs.Laws.{SafetyLaws}
 use Rattle.world_core.specs.Starting.{Begins, BeginsFresh, StandsOn}
 use Rattle.world_core.specs.Exact.{MayLeave, IsCrashAnswer}
@@ -200,7 +202,7 @@ fresh_core events safety cells new some few b order = begins_blank events safety
 
 -- ---- a core on the files that a crash left
 
-pub stands_keeps : EventLaws → SafetyLaws → (past : Past) (old new : State) (c : IsCoreAt past old) → IsInOrder core_disk new
+stands_keeps : EventLaws → SafetyLaws → (past : Past) (old new : State) (c : IsCoreAt past old) → IsInOrder core_disk new
     → (left : FourFiles (Vec ℕ Global)) → MayLeave (files_in old) left.image_a.items left.image_b.items left.log_a.items left.log_b.items
     → (given : Answer) → StandsOn old.images.cells left.image_a.items left.image_b.items left.log_a.items left.log_b.items given new → IsCoreAt (past_after past (move.Crash left) given) new
 stands_keeps events safety past old new c order left may (answer.Recovered tick from) s =
@@ -218,7 +220,7 @@ begun_cells newest tick words ia ib la lb new b = ap (λ (k : Progress). k.cells
 pub fresh_cells : (cells : ℕ) (new : State) → BeginsFresh cells new → new.images.cells ≡ cells
 fresh_cells cells new b = begun_cells None 0 (replicate cells 0) [] [] [] [] new b ∙ length-replicate cells 0
 
-pub stands_cells : EventLaws → SafetyLaws → (past : Past) (old new : State) (c : IsCoreAt past old) → IsInOrder core_disk new
+stands_cells : EventLaws → SafetyLaws → (past : Past) (old new : State) (c : IsCoreAt past old) → IsInOrder core_disk new
     → (left : FourFiles (Vec ℕ Global)) → MayLeave (files_in old) left.image_a.items left.image_b.items left.log_a.items left.log_b.items
     → (given : Answer) → StandsOn old.images.cells left.image_a.items left.image_b.items left.log_a.items left.log_b.items given new → new.images.cells ≡ old.images.cells
 stands_cells events safety past old new c order left may (answer.Recovered tick from) s =
@@ -228,11 +230,18 @@ stands_cells events safety past old new c order left may answer.Blank s =
     begun_cells None 0 (replicate old.images.cells 0) left.image_a.items left.image_b.items left.log_a.items left.log_b.items new s.1 ∙ length-replicate old.images.cells 0
 stands_cells events safety past old new c order left may given s = absurd s
 
-pub stands_exact : (state new : State) (cells : ℕ) (ia ib la lb : List ℕ) → MayLeave (files_in state) ia ib la lb
-    → (given : Answer) → StandsOn cells ia ib la lb given new → IsCrashAnswer (files_in state) ia ib la lb given
-stands_exact state new cells ia ib la lb may (answer.Recovered tick from) s = (may, (s.0, s.1, s.2, s.3))
-stands_exact state new cells ia ib la lb may answer.Blank s = (may, s.0)
-stands_exact state new cells ia ib la lb may given s = absurd s
+pub stands_stepped : EventLaws → SafetyLaws → (first : Past) (old new : State) (c : IsCoreAt first old) → IsInOrder core_disk new
+    → (left : FourFiles (Vec ℕ Global)) → MayLeave (files_in old) left.image_a.items left.image_b.items left.log_a.items left.log_b.items
+    → (given : Answer) → StandsOn old.images.cells left.image_a.items left.image_b.items left.log_a.items left.log_b.items given new → Stepped (move.Crash left) old given new
+stands_stepped events safety first old new c order left may (answer.Recovered tick from) s =
+    let keeps = λ (past : Past) (h : IsCoreAt past old). stands_keeps events safety past old new h order left may (answer.Recovered tick from) s in
+    let cells = stands_cells events safety first old new c order left may (answer.Recovered tick from) s in
+    search rules
+stands_stepped events safety first old new c order left may answer.Blank s =
+    let keeps = λ (past : Past) (h : IsCoreAt past old). stands_keeps events safety past old new h order left may answer.Blank s in
+    let cells = stands_cells events safety first old new c order left may answer.Blank s in
+    search rules
+stands_stepped events safety first old new c order left may given s = absurd s
 
 pub refused_exact : SafetyLaws → (past : Past) (state : State) (c : IsCoreAt past state) (ia ib la lb : List ℕ) → MayLeave (files_in state) ia ib la lb → (refusal : Refusal)
     → (refusal ≡ NoMemory) ⊎ ((refusal ≢ NoImage) × Recovers ia ib la lb (Err refusal)) → IsCrashAnswer (files_in state) ia ib la lb (answer.Refused refusal)

@@ -11,8 +11,10 @@ use Rattle.world_core.specs.declared.moves.Answer.TheVariants as answer
 use Rattle.world_core.specs.Past.{Past, past_after, past_of}
 use Rattle.world_core.specs.State.{State}
 use Rattle.world_core.specs.Facts.{IsCoreAt}
-use Rattle.world_core.specs.Moving.{Does}
-use Rattle.world_core.specs.Exact.{IsExact, Progresses}
+use Rattle.std.proofs.Common.{rules}
+use Rattle.world_actions.specs.declared.refusal.Refusal.{Refusal}
+use Rattle.world_core.specs.Exact.{IsExact}
+use Rattle.world_core.specs.Stepped.{Stepped}
 use Rattle.world_core.specs.Headline.{Answers, Runs}
 use Rattle.world_core.specs.Repeating.{GoesOn, AllGoOn, reported_by, reported_of, IsReportedAtEnd, Repeats}
 use Rattle.world_core.proofs.Headline.{past_of-more, runs-more}
@@ -88,13 +90,6 @@ module _ (asked : Move) (idle : Answer) (most left : ℕ) (past : Past) (old : S
           },
         )
 
--- the promises of a call that makes the move
-pub record Stepped (asked : Move) (old : State) (given : Answer) (new : State) : Type 0 where
-  pub keeps : (past : Past) → IsCoreAt past old → IsCoreAt (past_after past asked given) new
-  pub exact : (past : Past) → IsCoreAt past old → IsExact past old asked given
-  pub does : Does asked old given new
-  pub progress : Progresses asked given old new
-
 module _ (asked : Move) (idle : Answer) (most left : ℕ) (past : Past) (old : State) (reported : Answer) (now : State)
     (s : SoFar asked idle most left past old reported now) (given : Answer) (next : State) (step : Stepped asked now given next) where
   one_more : Answers (past_now asked idle most left past old reported now s) now asked given next
@@ -113,3 +108,9 @@ as_image fate old new result given step is = subst (λ r. Stepped (move.Image fa
 
 pub as_log : (fate : Fate) (old new : State) (result given : LogAnswer) → Stepped (move.Log fate) old (answer.Log result) new → result ≡ given → Stepped (move.Log fate) old (answer.Log given) new
 as_log fate old new result given step is = subst (λ r. Stepped (move.Log fate) old (answer.Log r) new) is step
+
+-- a refused move
+pub refused_step : (asked : Move) (state : State) (refusal : Refusal) → ((past : Past) → IsCoreAt past state → IsExact past state asked (answer.Refused refusal))
+    → Stepped asked state (answer.Refused refusal) state
+refused_step (move.Act action) state refusal exact = search rules
+refused_step asked state refusal exact = search rules

@@ -26,7 +26,8 @@ use Rattle.world_core.specs.Facts.{IsCoreAt}
 use Rattle.world_core.specs.Headline.{Answers, Runs}
 use Rattle.world_core.specs.Repeating.{reported_of, IsReportedAtEnd, Repeats, RepeatsImages, RepeatsLog, ImagesSettled, LogSettled, StartSettled}
 use Rattle.world_core.proofs.Headline.{past_of-more}
-use Rattle.world_core.proofs.Repeating.{SoFar, Stepped, step_ends, replicate_more}
+use Rattle.world_core.specs.Stepped.{Stepped}
+use Rattle.world_core.proofs.Repeating.{SoFar, step_ends, replicate_more}
 use Rattle.world_core.proofs.Logging.{HasLog}
 use Rattle.world_core.proofs.LogExact.{no_work}
 

@@ -12,3 +12,4 @@ pub mod Plain
 pub mod Repeating
 -- inside: for private functions only
 pub mod Laws
+pub mod Stepped

@@ -7,6 +7,7 @@ ghost use Rattle.world_core.specs.Starting.{BeginsFresh};
 ghost use Rattle.world_core.specs.Moving.{Does};
 ghost use Rattle.world_core.specs.Exact.{IsExact, Progresses};
 ghost use Rattle.world_core.specs.Facts.{IsCoreAt};
+ghost use Rattle.world_core.specs.Stepped.{Stepped};
 
 use crate::laws::{File, safety_laws};
 use crate::moves::{Answer, Fate, Move};
@@ -101,26 +102,18 @@ impl<C: Capture> Core<C> {
     }
 
     fn act(&mut self, action: Action) -> Answer
-        ensures keeps { (past : Past) → IsCoreAt past self.old
-            → IsCoreAt (past_after past (Move.Act action) result) self.new }
-        ensures exact { (past : Past) → IsCoreAt past self.old
-            → IsExact past self.old (Move.Act action) result }
-        ensures does { Does (Move.Act action) self.old result self.new }
-        ensures cells { self.new.images.cells ≡ self.old.images.cells }
-        ensures refused { (refusal : _) → result ≡ Answer.Refused refusal → self.new ≡ self.old }
+        ensures { Stepped (Move.Act action) self.old result self.new }
     {
         event_laws();
         keeper_laws::<File>();
         if let Some(refusal) = self.engine.tick_refusal() {
             return Answer::Refused(refusal);
         }
-        match self.engine.act(action) {
-            Ok(()) => {
-                self.engine.in_order();
-                Answer::Did
-            }
-            Err(refusal) => Answer::Refused(refusal),
+        if let Err(refusal) = self.engine.act(action) {
+            return Answer::Refused(refusal);
         }
+        self.engine.in_order();
+        Answer::Did
     }
 
     fn get(&mut self, cell: u32) -> Answer
@@ -137,13 +130,7 @@ impl<C: Capture> Core<C> {
     }
 
     fn end(&mut self) -> Answer
-        ensures keeps { (past : Past) → IsCoreAt past self.old
-            → IsCoreAt (past_after past Move.End result) self.new }
-        ensures exact { (past : Past) → IsCoreAt past self.old
-            → IsExact past self.old Move.End result }
-        ensures does { Does Move.End self.old result self.new }
-        ensures cells { self.new.images.cells ≡ self.old.images.cells }
-        ensures refused { (refusal : _) → result ≡ Answer.Refused refusal → self.new ≡ self.old }
+        ensures { Stepped Move.End self.old result self.new }
     {
         event_laws();
         keeper_laws::<File>();
@@ -159,13 +146,7 @@ impl<C: Capture> Core<C> {
     }
 
     fn mark(&mut self) -> Answer
-        ensures keeps { (past : Past) → IsCoreAt past self.old
-            → IsCoreAt (past_after past Move.Mark result) self.new }
-        ensures exact { (past : Past) → IsCoreAt past self.old
-            → IsExact past self.old Move.Mark result }
-        ensures does { Does Move.Mark self.old result self.new }
-        ensures cells { self.new.images.cells ≡ self.old.images.cells }
-        ensures refused { (refusal : _) → result ≡ Answer.Refused refusal → self.new ≡ self.old }
+        ensures { Stepped Move.Mark self.old result self.new }
     {
         event_laws();
         keeper_laws::<File>();
@@ -178,13 +159,7 @@ impl<C: Capture> Core<C> {
     }
 
     fn image(&mut self, fate: Fate) -> ImageAnswer
-        ensures keeps { (past : Past) → IsCoreAt past self.old
-            → IsCoreAt (past_after past (Move.Image fate) (Answer.Image result)) self.new }
-        ensures exact { (past : Past) → IsCoreAt past self.old
-            → IsExact past self.old (Move.Image fate) (Answer.Image result) }
-        ensures does { Does (Move.Image fate) self.old (Answer.Image result) self.new }
-        ensures cells { self.new.images.cells ≡ self.old.images.cells }
-        ensures progress { Progresses (Move.Image fate) (Answer.Image result) self.old self.new }
+        ensures { Stepped (Move.Image fate) self.old (Answer.Image result) self.new }
     {
         event_laws();
         keeper_laws::<File>();
@@ -203,13 +178,7 @@ impl<C: Capture> Core<C> {
 
     // In a start the log waits until the image is open.
     fn log(&mut self, fate: Fate) -> LogAnswer
-        ensures keeps { (past : Past) → IsCoreAt past self.old
-            → IsCoreAt (past_after past (Move.Log fate) (Answer.Log result)) self.new }
-        ensures exact { (past : Past) → IsCoreAt past self.old
-            → IsExact past self.old (Move.Log fate) (Answer.Log result) }
-        ensures does { Does (Move.Log fate) self.old (Answer.Log result) self.new }
-        ensures cells { self.new.images.cells ≡ self.old.images.cells }
-        ensures progress { Progresses (Move.Log fate) (Answer.Log result) self.old self.new }
+        ensures { Stepped (Move.Log fate) self.old (Answer.Log result) self.new }
     {
         event_laws();
         keeper_laws::<File>();
@@ -224,14 +193,7 @@ impl<C: Capture> Core<C> {
 
     // Records that the image of this tick has need no logging.
     fn cover(&mut self, tick: u64) -> Answer
-        ensures keeps { (past : Past) → IsCoreAt past self.old
-            → IsCoreAt (past_after past (Move.Cover tick) result) self.new }
-        ensures exact { (past : Past) → IsCoreAt past self.old
-            → IsExact past self.old (Move.Cover tick) result }
-        ensures does { Does (Move.Cover tick) self.old result self.new }
-        ensures progress { Progresses (Move.Cover tick) result self.old self.new }
-        ensures cells { self.new.images.cells ≡ self.old.images.cells }
-        ensures refused { (refusal : _) → result ≡ Answer.Refused refusal → self.new ≡ self.old }
+        ensures { Stepped (Move.Cover tick) self.old result self.new }
     {
         event_laws();
         keeper_laws::<File>();
@@ -245,13 +207,7 @@ impl<C: Capture> Core<C> {
 
     // The next start begins from what recovery finds in the bytes that the crash left.
     fn crash(&mut self, left: FourFiles<Vec<u8>>) -> Answer
-        ensures keeps { (past : Past) → IsCoreAt past self.old
-            → IsCoreAt (past_after past (Move.Crash left) result) self.new }
-        ensures exact { (past : Past) → IsCoreAt past self.old
-            → IsExact past self.old (Move.Crash left) result }
-        ensures does { Does (Move.Crash left) self.old result self.new }
-        ensures cells { self.new.images.cells ≡ self.old.images.cells }
-        ensures refused { (refusal : _) → result ≡ Answer.Refused refusal → self.new ≡ self.old }
+        ensures { Stepped (Move.Crash left) self.old result self.new }
     {
         event_laws();
         safety_laws();

@@ -62,14 +62,6 @@ module _ {D : Type 0} (disk : Ghosts D) (files : FourFiles D) (ia ib la lb : Lis
     log_b_closed = (read.log_b_read.reads ClosedSegment).0 closed.log_b_closed;
   }
 
-  pub closed_read : AreClosed (disk.content files.image_a) (disk.content files.image_b) (disk.content files.log_a) (disk.content files.log_b) → AreClosed ia ib la lb
-  closed_read closed = record {
-    image_a_closed = read.image_a_read.reads ∙ closed.image_a_closed;
-    image_b_closed = read.image_b_read.reads ∙ closed.image_b_closed;
-    log_a_closed = (read.log_a_read.reads ClosedSegment).1 closed.log_a_closed;
-    log_b_closed = (read.log_b_read.reads ClosedSegment).1 closed.log_b_closed;
-  }
-
   -- the flags of the bytes that were read are those of the files
   pub read_gates : ((bytes : List ℕ) → ReportsShut (is_shut bytes) bytes) → (left : FourFiles D) → EachFile files left (KeepsFile disk)
       → (shut : FourFiles Bool) → shut.image_a ≡ is_shut ia → shut.image_b ≡ is_shut ib → shut.log_a ≡ is_shut la → shut.log_b ≡ is_shut lb → AreGates disk.content left shut

@@ -1,7 +1,6 @@
 -- The files of a new world are made.
 use Rattle.std.proofs.lemmas.List.{length-replicate}
-use Rattle.std.proofs.Common.{◌≡◌, ◌≤◌, ◌⊎◌, ℕ, Bool, inl, inr, List, [], ◌∷◌, length, replicate, None, Result, Ok, Err, refl, sym, ap, subst, ◌∙◌, arith}
-use Rattle.std.specs.Prelude.{IfOk, IfErr, OnOk}
+use Rattle.std.proofs.Common.{◌≡◌, ◌≤◌, ◌⊎◌, ℕ, Bool, inl, inr, List, [], ◌∷◌, length, replicate, None, refl, sym, ap, subst, ◌∙◌, arith}
 use Rattle.world_actions.specs.declared.refusal.Refusal.{Refusal}
 use Rattle.world_actions.specs.declared.refusal.Refusal.TheVariants.{Device, NotEmpty}
 use Rattle.world_actions.specs.declared.world.TheConstants.{CELLS}
@@ -25,23 +24,10 @@ use Rattle.engine.proofs.Beginning.{begins_follow}
 use Rattle.engine.proofs.Sound.{fewer_sound, follows_safe}
 use Rattle.world_start.proofs.Recovered.{synced_on}
 
--- a fact on a result follows from another one
-pub if_ok : {T : Type 0} (r : Result T Refusal) (P Q : T → Type 0) → ((value : T) → P value → Q value) → IfOk r P → IfOk r Q
-if_ok (Ok value) P Q f h = f value h
-if_ok (Err refusal) P Q f h = tt
-
-pub on_ok : {T : Type 0} (r : Result T Refusal) (P Q R S X : Type 0) → (P → Q → R → S → X) → OnOk r P → OnOk r Q → OnOk r R → OnOk r S → OnOk r X
-on_ok (Ok value) P Q R S X f p q r s = f p q r s
-on_ok (Err refusal) P Q R S X f p q r s = tt
-
 -- a list of length 0 is empty
 pub no_items : {T : Type 0} (items : List T) → length items ≡ 0 → items ≡ []
 no_items [] e = refl
 no_items (item ∷ items) e = absurd (omega (arith, e))
-
-pub if_refused : {T : Type 0} (r : Result T Refusal) (P Q : Refusal → Type 0) → ((refusal : Refusal) → P refusal → Q refusal) → IfErr r P → IfErr r Q
-if_refused (Ok value) P Q f h = tt
-if_refused (Err refusal) P Q f h = f refusal h
 
 module _ {D : Type 0} (disk : Ghosts D) where
   pub fresh_begun : EventLaws → KeeperLaws disk → (files left : FourFiles D) → EachFile files left (KeepsFile disk) → FilesAreClosed disk.content files → (cells : ℕ) → 1 ≤ cells → cells ≤ CELLS

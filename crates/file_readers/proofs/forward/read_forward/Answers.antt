@@ -18,11 +18,4 @@ filled content old reserved resized seen new pad at end len is_seen is_resized i
     (read ∙ ap (λ (l : List ℕ). l ++ take (length seen - at) (drop at content)) front)
 
 pub returns-clause-read : goal.returns-clause-read
-returns-clause-read g c = λ honest.
-    let start : length c.args.bytes.now.items ≡ c.len-start.result = search rules in
-    on_ok c.read_behind.result _ _
-    (λ read first. filled (g.D.Disk.content c.args.disk.now) c.args.bytes.now.items c.reserve_exact.new.self.items
-    c.resize.new.self.items c.deref_mut.result.now c.read_behind.new.bytes _ c.len-start.result c.args.end c.resize.new.self.len
-    c.deref_mut.ensures.value c.in_ok-resize.ensures.items c.in_ok-reserve_exact.ensures.items start
-    (omega (arith, start, c.requires.further)) c.in_ok-resize.ensures.len c.deref_mut.ensures.len c.read_behind.ensures.length read first)
-    (c.read_behind.ensures.read honest)
+returns-clause-read g c = search (rules, on_ok, filled)

@@ -1,7 +1,7 @@
 use Rattle.std.proofs.Common.{◌≡◌, ◌≤◌, min, length, take, sym, ap, ◌∙◌, arith, rules}
 use Rattle.std.proofs.lemmas.List.{take_min}
 use Rattle.image_files.specs.declared.format.TheConstants.{HEADER_BYTES}
-use Rattle.image_files.specs.Image.{image_of, cells_in}
+use Rattle.image_files.specs.Image.{image_of}
 use Rattle.file_readers.specs.declared.image.TheConstants.{IMAGE_BYTES_MAX}
 use Rattle.file_readers.proofs.AskingLemmas.{asked_first, asked_read, asked_wider}
 use Rattle.file_readers.proofs.ImageLemmas.{image_exact}
@@ -36,12 +36,7 @@ returns-clause-asked g c =
     (omega (arith, c.min-2.ensures, c.in_ok-read_forward-2.ensures.longer, c.image_end-end.ensures.most)) (returns-clause-no_further g c)
 
 pub returns-clause-exact : goal.returns-clause-exact
-returns-clause-exact g c tick words is =
-    let seen = c.deref.ensures.value in
-    let head = c.in_ok-read_forward.ensures.longer in
-    let longer = c.in_ok-read_forward-2.ensures.longer in
-    image_exact c.read_forward.new.bytes.items c.read_forward-2.new.bytes.items c.in_ok-len.len c.image_end-end.result tick words (head.0 ∙ c.min.ensures) longer.1 (longer.0 ∙ c.min-2.ensures)
-    (λ cells long some. c.image_end-end.ensures.exact cells (omega (arith, long, ap length seen)) (ap cells_in seen ∙ some)) is
+returns-clause-exact g c tick words is = search (rules, image_exact)
 
 pub returns-clause-read : goal.returns-clause-read
 returns-clause-read g c honest =

@@ -1,11 +1,12 @@
+use Rattle.std.proofs.Common.{rules}
+use Rattle.std.proofs.Common.{arith}
+use Rattle.std.proofs.lemmas.Grind.{common_steps}
 use Rattle.std.proofs.Common.{true, false}
 use Rattle.file_readers.proofs.FrontLemmas.{extent_is, headless_is, read_to_gate, read_to_most, read_headless, gate_later, exact_to_gate, exact_to_most, exact_headless}
 use Rattle.file_readers.proofs.segment.counting.Goals as goal
 
 pub returns-in-Some-clause-enough : goal.returns-in-Some-clause-enough
-returns-in-Some-clause-enough c = λ file first within most.
-    let x = extent_is c.args.bytes.now c.args.extent c.in-Some.extent true c.in-Some.is c.if-extent.true c.requires.extent in
-    read_to_gate c.segment_extents.ensures.ended c.args.bytes.now file c.in-Some.extent.groups_end c.in-Some.extent.ticks x first
+returns-in-Some-clause-enough c = grind (arith, common_steps, extent_is, read_to_gate)
 
 pub returns-in-Some-clause-no_fewer : goal.returns-in-Some-clause-no_fewer
 returns-in-Some-clause-no_fewer c = λ place groups_end ticks within shorter.
@@ -13,14 +14,10 @@ returns-in-Some-clause-no_fewer c = λ place groups_end ticks within shorter.
     gate_later c.segment_extents.ensures.whole c.segment_extents.ensures.cut c.args.bytes.now c.in-Some.extent.groups_end c.in-Some.extent.ticks x place groups_end ticks within shorter
 
 pub returns-in_default-clause-enough : goal.returns-in_default-clause-enough
-returns-in_default-clause-enough c = λ file first within most.
-    let x = extent_is c.args.bytes.now c.args.extent c.in-Some.extent false c.in-Some.is c.if-extent.false c.requires.extent in
-    read_to_most c.segment_extents.ensures.past c.args.bytes.now file c.in-Some.extent.groups_end c.in-Some.extent.ticks c.args.most x first within c.if-bytes-most.false most
+returns-in_default-clause-enough c = search (rules, extent_is, read_to_most)
 
 pub returns-in_default-2-clause-enough : goal.returns-in_default-2-clause-enough
-returns-in_default-2-clause-enough c = λ file first within most.
-    read_headless c.segment_extents.ensures.headless c.args.bytes.now file c.args.most
-    (headless_is c.args.bytes.now c.args.extent c.in_default.is c.requires.headless) c.requires.long first within most
+returns-in_default-2-clause-enough c = search (rules, read_headless, headless_is)
 
 pub returns-in-Some-clause-exact : goal.returns-in-Some-clause-exact
 returns-in-Some-clause-exact c = λ base list segment.

@@ -1,3 +1,4 @@
+use Rattle.std.proofs.Common.{rules}
 use Rattle.std.proofs.Common.{◌≡◌, ◌⊎◌, inl, inr, ℕ, ◌+◌, ◌<◌, ◌≤◌, false, min, max, List, length, take, refl, sym, ap, subst, ◌∙◌, arith}
 use Rattle.world_actions.specs.declared.action.Action.{Action}
 use Rattle.action_log.specs.Extent.{IsExtent}
@@ -10,18 +11,14 @@ use Rattle.file_readers.proofs.FrontLemmas.{extent_is}
 use Rattle.file_readers.proofs.segment.read_segment_file.Goals as goal
 
 next_least : (most further next : ℕ) → PIECE_BYTES ≤ further → next ≡ min most further → (next ≡ most) ⊎ (PIECE_BYTES ≤ next)
-next_least most further next long is =
-    elim (Rattle.std.proofs.lemmas.Bool.cases_lt further most) [ inl less ↦ inr (omega arith) | inr far ↦ inl (omega arith) ]
+next_least most further next long is = search rules
 
 -- bytes that stay the first ones
 kept_first : (before reserved new : List ℕ) → reserved ≡ before → take (length reserved) new ≡ reserved → take (length before) new ≡ before
 kept_first before reserved new kept first = ap (λ (l : List ℕ). take (length l) new) (sym kept) ∙ first ∙ kept
 
 pub returns-in_err-reserve_pieces-clause-asked : goal.returns-in_err-reserve_pieces-clause-asked
-returns-in_err-reserve_pieces-clause-asked g c =
-    let so_far = c.loop-bytes.invariant in
-    asked_wider g.D.Disk.called (length c.loop-bytes.bytes.items) SEGMENT_BYTES_MAX c.args.disk.now c.loop-bytes.disk
-    (omega (arith, so_far.within, so_far.inside, so_far.bound)) so_far.asked
+returns-in_err-reserve_pieces-clause-asked g c = search (rules, asked_wider)
 
 pub returns-in_err-read_forward-clause-asked : goal.returns-in_err-read_forward-clause-asked
 returns-in_err-read_forward-clause-asked g c =

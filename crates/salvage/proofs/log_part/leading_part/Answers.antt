@@ -1,3 +1,4 @@
+use Rattle.std.proofs.Common.{rules}
 use Rattle.std.proofs.Common.{inl, sym, ◌∙◌}
 use Rattle.action_log.proofs.ExtentLemmas.{none_unmarked}
 use Rattle.salvage.proofs.Forming.{formed_before}
@@ -7,9 +8,7 @@ pub returns-in_default-marked_at-clause-part : goal.returns-in_default-marked_at
 returns-in_default-marked_at-clause-part c = (c.requires, inl (none_unmarked c.args.bytes.now (sym c.marked_at.ensures ∙ c.in_default-marked_at.is)))
 
 pub returns-clause-part : goal.returns-clause-part
-returns-clause-part c =
-    rw c.part_before.ensures (formed_before c.args.bytes.now _ _ _ c.in-Some.ensures.some _ _ (sym c.marked_at.ensures ∙ c.in-Some-marked_at.is) c.requires).0
+returns-clause-part c = search (rules, formed_before)
 
 pub returns-clause-kept : goal.returns-clause-kept
-returns-clause-kept c =
-    rw c.part_before.ensures (formed_before c.args.bytes.now _ _ _ c.in-Some.ensures.some _ _ (sym c.marked_at.ensures ∙ c.in-Some-marked_at.is) c.requires).1
+returns-clause-kept c = search (rules, formed_before)

@@ -1,10 +1,8 @@
-use Rattle.std.proofs.Common.{Option, ap, subst, sym, ◌∙◌, inr, refl}
-use Rattle.std.specs.Prelude.{IsOk}
-use Rattle.world_ticks.specs.After.{after_actions}
+use Rattle.std.proofs.Common.{rules}
+use Rattle.std.proofs.Common.{Option, subst, inr}
 use Rattle.action_log.specs.declared.reader.HeldLog.{HeldLog}
-use Rattle.action_log.specs.Segment.{OpenSegment, IsSegment}
+use Rattle.action_log.specs.Segment.{IsSegment}
 use Rattle.action_log.specs.HeldLog.{AreHeld, IsHeld, IsRefusedAt, segment_held, segment_of_held}
-use Rattle.action_log.specs.Segment.{actions_of}
 use Rattle.salvage.specs.Parts.{kept_log}
 use Rattle.salvage.specs.Replay.{IsRefused}
 use Rattle.salvage.proofs.Replaying.{accepted, stays_elsewhere, kept_open, kept_replayed}
@@ -18,16 +16,7 @@ returns-then-log-world-clause-part c =
     stays_elsewhere c.args.world.tick c.args.world.words.items c.args.bytes.now c.args.formed log held c.if-log-world.true
 
 pub returns-in-Ok-clause-part : goal.returns-in-Ok-clause-part
-returns-in-Ok-clause-part c =
-    let log = c.in-Ok-Some.log in
-    let kept = kept_log c.args.formed c.args.bytes.now in
-    let reads : IsSegment kept (segment_of_held log) =
-    subst (λ l. IsSegment l (segment_of_held log)) c.kept.ensures
-    (subst (λ (held : Option HeldLog). IsSegment c.kept.result.now (segment_held held)) c.in-Ok-Some.field-0-is c.in-Ok-Some.ensures.reads.0) in
-    let done = c.in-Ok.ensures.done in
-    let here : IsSegment kept (OpenSegment c.args.world.tick done.0) = subst (λ base. IsSegment kept (OpenSegment base done.0)) c.if-log-world.false (subst (IsSegment kept) done.1 reads) in
-    accepted c.args.world.tick c.args.world.words.items c.args.bytes.now c.args.formed done.0 here
-    (subst (λ r. IsOk r) (sym (ap (λ words. after_actions words (actions_of done.0)) (sym c.new.ensures) ∙ done.3)) refl)
+returns-in-Ok-clause-part c = search (rules, accepted)
 
 pub returns-clause-part : goal.returns-clause-part
 returns-clause-part c =

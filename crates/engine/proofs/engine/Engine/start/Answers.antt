@@ -1,6 +1,5 @@
-use Rattle.std.proofs.Common.{◌≡◌, ◌⊎◌, inl, inr, true, false, refl, sym, ap, subst, ◌∙◌}
-use Rattle.disk_model.specs.Disk.{Grew}
-use Rattle.disk_model.specs.declared.four_files.FourFiles.{FourFiles}
+use Rattle.std.proofs.Common.{rules}
+use Rattle.std.proofs.Common.{◌≡◌, ◌⊎◌, inl, inr, true, false, sym, ap, ◌∙◌}
 use Rattle.image_files.specs.declared.phase.Phase.{Phase}
 use Rattle.image_files.specs.declared.phase.Phase.TheVariants.{Idle, Down}
 use Rattle.engine.specs.World.{World}
@@ -18,8 +17,7 @@ returns-then-images_are_down-clause-device g c = λ up log_up.
     let old = c.args.self.now in
     let new = c.write_image.new.self in
     images_grew faults old.files new.files
-    (run_failed (old.images.phase ≡ Down → ⊥) (new.images.phase ≡ Down → ⊥) (new.images.phase ≡ Down) (faults old.files.image_a) (faults new.files.image_a)
-    (faults old.files.image_b) (faults new.files.image_b) c.write_image.ensures.runs.counts up (λ still. still (c.if-images_are_down.ensures.down.0 refl)))
+    (search (rules, run_failed))
 
 pub returns-then-log_is_down-clause-follows : goal.returns-then-log_is_down-clause-follows
 returns-then-log_is_down-clause-follows g c = λ honest first ticks acknowledged f.
@@ -32,16 +30,10 @@ returns-then-log_is_down-clause-device g c = λ up log_up.
     let old = c.args.self.now in
     let mid = c.write_image.new.self in
     let new = c.write_log.new.self in
-    let down : new.log.down ≡ true = elim c.then-log_is_down.branch as (λ b. new.log.down ≡ true) [
-      | then-log_is_down-via-then-log_is_down w ↦ sym w.if-log_is_down.ensures
-      | then-log_is_down-via-else-log_is_down+then-is_starting w ↦ start_is_down new.log new.queue c.write_log.ensures.rests (w.if-is_starting.ensures.left.0 refl)
-    ] in
+    let down : new.log.down ≡ true = search (rules, start_is_down) in
     let was : mid.log.down ≡ false = ap (λ (w : World g.row.D.Denot). w.log.down) c.write_image.ensures.runs.rest ∙ log_up in
     logs_grew faults old.files new.files
-    (subst (λ (files : FourFiles g.row.D.Denot). Grew (faults files.log_a) (faults new.files.log_a) ⊎ Grew (faults files.log_b) (faults new.files.log_b))
-    (ap (λ (w : World g.row.D.Denot). w.files) c.write_image.ensures.runs.rest)
-    (run_failed (mid.log.down ≡ false) (new.log.down ≡ false) (new.log.down ≡ true) (faults mid.files.log_a) (faults new.files.log_a)
-    (faults mid.files.log_b) (faults new.files.log_b) c.write_log.ensures.runs.counts was (λ still. let e : true ≡ false = sym down ∙ still in absurd (let h = e in cc))))
+    (search (rules, run_failed))
 
 pub returns-clause-acknowledges : goal.returns-clause-acknowledges
 returns-clause-acknowledges g c = λ honest first ticks acknowledged f.

@@ -1,4 +1,5 @@
-use Rattle.std.proofs.Common.{inr, refl, sym, ap, length, ◌∙◌}
+use Rattle.std.proofs.Common.{rules}
+use Rattle.std.proofs.Common.{inr, refl, ap, ◌∙◌}
 use Rattle.image_files.specs.Progress.{Progress}
 use Rattle.restart.proofs.Stepped.{steps_content}
 use Rattle.engine.proofs.Rounds.{cells_step, smaller_step, live_step}
@@ -12,8 +13,7 @@ invariant_of-self g c =
     let order = c.self.invariant.1 in (
       c.self.invariant.0,
       record {
-        cells = e.cells ∙ (order.cells ∙ ap length (sym (live_step g.C.Capture.content g.C.Taker.took g.met.C.Capture.after_take c.step.result was.images c.step.new.self was.store
-            c.step.new.from e.taken)));
+        cells = search (rules, live_step);
         left = cells_step g.C.Capture.content g.C.Taker.took g.met.C.Capture.after_take c.step.result was.images c.step.new.self was.store
             c.step.new.from e.taken e.all_taken e.idle e.goes_on e.down e.ended e.cells (λ h. (e.rests h).0) order.left;
         images_fit = e.fits;

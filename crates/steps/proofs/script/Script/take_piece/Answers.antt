@@ -1,4 +1,4 @@
-use Rattle.std.proofs.Common.{◌≡◌, ◌≤◌, inl, inr, ap, ◌∙◌, [], ◌++◌, append_assoc, append-nil, length, take, suc, add-one, arith}
+use Rattle.std.proofs.Common.{◌≡◌, ◌≤◌, inl, inr, [], ◌++◌, append_assoc, length, take, suc, add-one, arith}
 use Rattle.std.proofs.Math.Seq.{take-suc}
 use Rattle.std.proofs.lemmas.List.{take_all}
 use Rattle.std.proofs.lemmas.Result.{err_from_is_err_and}

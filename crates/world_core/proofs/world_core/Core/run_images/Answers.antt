@@ -8,36 +8,22 @@ use Rattle.world_core.proofs.Settling.{images_ended}
 use Rattle.world_core.proofs.world_core.Core.run_images.Goals as goal
 
 pub returns-in-Idle : goal.returns-in-Idle
-returns-in-Idle g c = record {
-  repeats = λ past h. images_ended c.args.fate past c.args.self.now c.loop-reported.reported c.loop-reported.self image_answer.Idle c.image-given.new.self c.loop-reported.reported
-      (c.loop-reported.invariant past h) (as_image c.args.fate c.loop-reported.self c.image-given.new.self c.image-given.result image_answer.Idle
-      (record { keeps = c.image-given.ensures.keeps; exact = c.image-given.ensures.exact; does = c.image-given.ensures.does; progress = c.image-given.ensures.progress }) c.in-Idle.is) refl;
-}
+returns-in-Idle g c = record { repeats = λ past h. images_ended _ _ _ _ _ _ _ _ (c.loop-reported.invariant past h) (as_image _ _ _ _ _ c.image-given.ensures c.in-Idle.is) refl }
 
 pub returns-in-Down : goal.returns-in-Down
 returns-in-Down g c = record {
-  repeats = λ past h. images_ended c.args.fate past c.args.self.now c.loop-reported.reported c.loop-reported.self image_answer.Down c.image-given.new.self c.image-given.result
-      (c.loop-reported.invariant past h) (as_image c.args.fate c.loop-reported.self c.image-given.new.self c.image-given.result image_answer.Down
-      (record { keeps = c.image-given.ensures.keeps; exact = c.image-given.ensures.exact; does = c.image-given.ensures.does; progress = c.image-given.ensures.progress }) c.in-Down.is)
-      (ap (λ r. answer.Image r) c.in-Down.is);
+  repeats = λ past h. images_ended _ _ _ _ _ _ _ _ (c.loop-reported.invariant past h) (as_image _ _ _ _ _ c.image-given.ensures c.in-Down.is) (ap (λ r. answer.Image r) c.in-Down.is);
 }
 
 pub loop-reported-preserved-in-Working : goal.loop-reported-preserved-in-Working
 loop-reported-preserved-in-Working g c =
-    let step = as_image c.args.fate c.loop-reported.self c.image-given.new.self c.image-given.result image_answer.Working
-    (record { keeps = c.image-given.ensures.keeps; exact = c.image-given.ensures.exact; does = c.image-given.ensures.does; progress = c.image-given.ensures.progress }) c.in-Working.is in
-    λ past h.
-    step_goes_on (move.Image c.args.fate) (answer.Image image_answer.Idle) (left_of c.args.self.now.images) (left_of c.loop-reported.self.images) past c.args.self.now
-    (answer.Image c.loop-reported.reported) c.loop-reported.self (c.loop-reported.invariant past h) (answer.Image image_answer.Working) c.image-given.new.self step
-    (left_of c.image-given.new.self.images) tt step.progress
+    let step = as_image _ _ _ _ _ c.image-given.ensures c.in-Working.is in
+    λ past h. step_goes_on _ _ _ _ _ _ _ _ (c.loop-reported.invariant past h) _ _ step _ tt step.progress
 
 pub loop-reported-preserved : goal.loop-reported-preserved
 loop-reported-preserved g c =
-    let step = as_image c.args.fate c.loop-reported.self c.image-given.new.self c.image-given.result (image_answer.Opened c.in-Opened.field-0)
-    (record { keeps = c.image-given.ensures.keeps; exact = c.image-given.ensures.exact; does = c.image-given.ensures.does; progress = c.image-given.ensures.progress }) c.in-Opened.is in
+    let step = as_image _ _ _ _ _ c.image-given.ensures c.in-Opened.is in
     λ past h.
     subst (λ r. SoFar (move.Image c.args.fate) (answer.Image image_answer.Idle) (left_of c.args.self.now.images)
     (left_of c.image-given.new.self.images) past c.args.self.now (answer.Image r) c.image-given.new.self) (sym c.in-Opened.is)
-    (step_goes_on (move.Image c.args.fate) (answer.Image image_answer.Idle) (left_of c.args.self.now.images) (left_of c.loop-reported.self.images) past c.args.self.now
-    (answer.Image c.loop-reported.reported) c.loop-reported.self (c.loop-reported.invariant past h) (answer.Image (image_answer.Opened c.in-Opened.field-0)) c.image-given.new.self step
-    (left_of c.image-given.new.self.images) tt (let p = step.progress in omega (arith, p.0, p.1)))
+    (step_goes_on _ _ _ _ _ _ _ _ (c.loop-reported.invariant past h) _ _ step _ tt (let p = step.progress in omega (arith, p.0, p.1)))

@@ -8,36 +8,22 @@ use Rattle.world_core.proofs.Settling.{log_ended}
 use Rattle.world_core.proofs.world_core.Core.run_log.Goals as goal
 
 pub returns-in-Idle : goal.returns-in-Idle
-returns-in-Idle g c = record {
-  repeats = λ past h. log_ended c.args.fate past c.args.self.now c.loop-reported.reported c.loop-reported.self log_answer.Idle c.log-given.new.self c.loop-reported.reported
-      (c.loop-reported.invariant past h) (as_log c.args.fate c.loop-reported.self c.log-given.new.self c.log-given.result log_answer.Idle
-      (record { keeps = c.log-given.ensures.keeps; exact = c.log-given.ensures.exact; does = c.log-given.ensures.does; progress = c.log-given.ensures.progress }) c.in-Idle.is) refl;
-}
+returns-in-Idle g c = record { repeats = λ past h. log_ended _ _ _ _ _ _ _ _ (c.loop-reported.invariant past h) (as_log _ _ _ _ _ c.log-given.ensures c.in-Idle.is) refl }
 
 pub returns-in-Down : goal.returns-in-Down
 returns-in-Down g c = record {
-  repeats = λ past h. log_ended c.args.fate past c.args.self.now c.loop-reported.reported c.loop-reported.self log_answer.Down c.log-given.new.self c.log-given.result
-      (c.loop-reported.invariant past h) (as_log c.args.fate c.loop-reported.self c.log-given.new.self c.log-given.result log_answer.Down
-      (record { keeps = c.log-given.ensures.keeps; exact = c.log-given.ensures.exact; does = c.log-given.ensures.does; progress = c.log-given.ensures.progress }) c.in-Down.is)
-      (ap (λ r. answer.Log r) c.in-Down.is);
+  repeats = λ past h. log_ended _ _ _ _ _ _ _ _ (c.loop-reported.invariant past h) (as_log _ _ _ _ _ c.log-given.ensures c.in-Down.is) (ap (λ r. answer.Log r) c.in-Down.is);
 }
 
 pub loop-reported-preserved-in-Working : goal.loop-reported-preserved-in-Working
 loop-reported-preserved-in-Working g c =
-    let step = as_log c.args.fate c.loop-reported.self c.log-given.new.self c.log-given.result log_answer.Working
-    (record { keeps = c.log-given.ensures.keeps; exact = c.log-given.ensures.exact; does = c.log-given.ensures.does; progress = c.log-given.ensures.progress }) c.in-Working.is in
-    λ past h.
-    step_goes_on (move.Log c.args.fate) (answer.Log log_answer.Idle) (work_of c.args.self.now.log c.args.self.now.queue) (work_of c.loop-reported.self.log c.loop-reported.self.queue)
-    past c.args.self.now (answer.Log c.loop-reported.reported) c.loop-reported.self (c.loop-reported.invariant past h) (answer.Log log_answer.Working) c.log-given.new.self step
-    (work_of c.log-given.new.self.log c.log-given.new.self.queue) tt step.progress
+    let step = as_log _ _ _ _ _ c.log-given.ensures c.in-Working.is in
+    λ past h. step_goes_on _ _ _ _ _ _ _ _ (c.loop-reported.invariant past h) _ _ step _ tt step.progress
 
 pub loop-reported-preserved : goal.loop-reported-preserved
 loop-reported-preserved g c =
-    let step = as_log c.args.fate c.loop-reported.self c.log-given.new.self c.log-given.result (log_answer.Acked c.in-Acked.field-0)
-    (record { keeps = c.log-given.ensures.keeps; exact = c.log-given.ensures.exact; does = c.log-given.ensures.does; progress = c.log-given.ensures.progress }) c.in-Acked.is in
+    let step = as_log _ _ _ _ _ c.log-given.ensures c.in-Acked.is in
     λ past h.
     subst (λ r. SoFar (move.Log c.args.fate) (answer.Log log_answer.Idle) (work_of c.args.self.now.log c.args.self.now.queue)
     (work_of c.log-given.new.self.log c.log-given.new.self.queue) past c.args.self.now (answer.Log r) c.log-given.new.self) (sym c.in-Acked.is)
-    (step_goes_on (move.Log c.args.fate) (answer.Log log_answer.Idle) (work_of c.args.self.now.log c.args.self.now.queue) (work_of c.loop-reported.self.log c.loop-reported.self.queue)
-    past c.args.self.now (answer.Log c.loop-reported.reported) c.loop-reported.self (c.loop-reported.invariant past h) (answer.Log (log_answer.Acked c.in-Acked.field-0)) c.log-given.new.self step
-    (work_of c.log-given.new.self.log c.log-given.new.self.queue) tt step.progress)
+    (step_goes_on _ _ _ _ _ _ _ _ (c.loop-reported.invariant past h) _ _ step _ tt step.progress)
