@@ -9,6 +9,7 @@ ghost use Rattle.file_disk.specs.KnownFile.{after_failure, CallsFile};
 use crate::opening::{above_streams, drop_copies, if_writable};
 use crate::pace::{Pace, Paced, pause};
 use crate::valve::{Valve, passed};
+use crate::witness::Witness;
 use disk_model::Disk;
 use std::fs::{File, Metadata};
 use std::io::{self, ErrorKind};
@@ -212,9 +213,9 @@ impl FileDisk {
         self.failure.take()
     }
 
-    /// Another descriptor of the same file, by which the system can be asked of it.
-    pub fn try_clone_file(&self) -> io::Result<File> {
-        self.file.try_clone()
+    /// A witness of the file, for another thread.
+    pub fn witness(&self) -> io::Result<Witness> {
+        Witness::of(&self.file)
     }
 
     /// Returns the same reason, and keeps it.

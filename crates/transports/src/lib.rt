@@ -5,7 +5,9 @@
 #![tactic(auto)]
 
 mod listener;
+mod local_port;
 mod stream;
 
 pub use listener::Listener;
+pub use local_port::LocalPort;
 pub use stream::Stream;

@@ -1,7 +1,7 @@
 use std::io;
-use std::net::{Ipv4Addr, Net, TcpStream};
+use std::net::{Net, TcpStream};
 use std::os::unix::net::UnixStream;
-use transports::Stream;
+use transports::{LocalPort, Stream};
 
 /// The address of a server.
 #[derive(Clone, Copy, Debug)]
@@ -17,7 +17,7 @@ impl Address<'_> {
     pub fn connect<R: Net<Stream = TcpStream>>(self, rt: &R) -> io::Result<Stream> {
         let stream = match self {
             Address::Port(port) => {
-                Stream::Tcp(TcpStream::connect(rt, (Ipv4Addr::LOCALHOST, port))?)
+                Stream::Tcp(TcpStream::connect(rt, LocalPort(port).address())?)
             }
             Address::Socket(path) => Stream::Unix(UnixStream::connect(rt, path)?),
         };
