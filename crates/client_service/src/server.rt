@@ -1,20 +1,22 @@
-ghost use Rattle.std.specs.Prelude.{◌≡◌, ◌≢◌, ◌+◌, ◌≤◌, IsTrue, IfOk};
+ghost use Rattle.std.specs.Prelude.{◌≡◌, ◌≢◌, ◌+◌, ◌≤◌, IsTrue, IfOk, IfErr};
 ghost use Rattle.workers.specs.AskOrder.{PlaysInTurn};
 ghost use Rattle.workers.specs.Meeting.{HeardOnlyOfDown};
 ghost use Rattle.worker_steps.specs.Stopped.{StaysSound};
 ghost use Rattle.worker_steps.specs.Begun.{IsWhole};
+ghost use Rattle.worker_threads.specs.Opening.{files_of};
+ghost use Rattle.client_service.specs.Accepting.{LeavesFiles};
 
 use crate::accept::{Accepted, Admission, Closed, accept_sessions};
 use crate::door::Door;
 use disk_model::Disk;
 use shared_capture::Method;
-use std::alloc::{AllocError, Global};
+use std::alloc::Global;
 use std::sync::Wait;
 use std::thread::Threads;
 use std::time::Clock;
 use transports::Listener;
 use worker_steps::{Gates, Opened};
-use worker_threads::{NotStarted, StoppedWorkers, Watch, meet_stopped, start, stop};
+use worker_threads::{NotBegun, StoppedWorkers, Watch, meet_stopped, no_memory, start, stop};
 use workers::{Gate, Spins};
 
 /// The workers and the listener of a server that has stopped.
@@ -25,38 +27,22 @@ pub struct Stopped<M: Method, D: Disk + Drop, A: Gate + Drop, B: Gate + Drop, C:
 }
 
 /// Why a server doesn't run to its end.
-#[derive(Clone, Copy, Debug, PartialEq, Eq)]
-pub enum NotServed {
-    NoMemory,
-    /// The system gives no thread for a worker.
-    NoThread,
+#[derive(Drop)]
+pub enum NotServed<D: Disk + Drop> {
+    NotBegun(NotBegun<D>),
     /// The door said that the server is to be left: its workers and sessions may run on, up to
     /// the program's end.
     Left,
 }
 
-impl From<AllocError> for NotServed {
+impl<D: Disk + Drop> From<NotBegun<D>> for NotServed<D> {
     ghost use Rattle.std.specs.Prelude.{◌≡◌};
-    ghost use Rattle.client_service.specs.declared.server.NotServed.TheVariants.{NoMemory};
+    ghost use Rattle.client_service.specs.declared.server.NotServed.TheVariants as reason;
 
-    ghost from_gives = { λ _ reason. reason ≡ NoMemory };
+    ghost from_gives = { λ refused served. served ≡ reason.NotBegun refused };
 
-    fn from(_: AllocError) -> Self {
-        NotServed::NoMemory
-    }
-}
-
-impl From<NotStarted> for NotServed {
-    ghost use Rattle.client_service.specs.Accepting.{served_by};
-    ghost use Rattle.std.specs.Prelude.{◌≡◌};
-
-    ghost from_gives = { λ started served. served ≡ served_by started };
-
-    fn from(reason: NotStarted) -> Self {
-        match reason {
-            NotStarted::NoMemory => NotServed::NoMemory,
-            NotStarted::NoThread => NotServed::NoThread,
-        }
+    fn from(refused: NotBegun<D>) -> Self {
+        NotServed::NotBegun(refused)
     }
 }
 
@@ -83,7 +69,7 @@ pub fn serve_clients<
     every: u32,
     listener: Listener,
     admission: Admission,
-) -> Result<Stopped<M, D, A, B, C>, NotServed>
+) -> Result<Stopped<M, D, A, B, C>, NotServed<D>>
     requires { IsWhole D.Disk opened }
     ensures all { IfOk result (λ stopped. stopped.accepted.closed ≡ Closed.AllCame
         → stopped.accepted.connections ≡ admission.clients) }
@@ -103,11 +89,13 @@ pub fn serve_clients<
     ensures every { IfOk result (λ stopped. stopped.workers.mutator.every ≡ every) }
     ensures heard { IfOk result (λ stopped.
         HeardOnlyOfDown stopped.workers.mutator.heard.numbers stopped.workers.log_writer.down) }
+    ensures refused { IfErr result (LeavesFiles (files_of opened.images opened.log)) }
 {
-    let door = watch.clone()?;
-    let spins = Spins::on_this_machine(rt, alloc)?;
-    let spins_too = spins.clone()?;
-    let (workers, asks) = start(rt, alloc, gates, watch, opened, every, spins_too)?;
+    let door: Result<_, _> = watch.clone();
+    let (Ok(door), Ok(spins)) = (door, Spins::on_this_machine(rt, alloc)) else {
+        return Err(NotServed::NotBegun(no_memory(opened)));
+    };
+    let (workers, asks) = start(rt, alloc, gates, watch, opened, every, &spins)?;
     let accepted = accept_sessions(rt, alloc, listener, admission, asks, spins, door);
     if let Closed::Left = accepted.closed {
         return Err(NotServed::Left);

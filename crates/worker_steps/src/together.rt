@@ -1,5 +1,5 @@
 //! The workers of a world in one thread, a step of one of them at a time.
-ghost use Rattle.std.specs.Prelude.{◌≡◌, ◌≤◌, IsTrue, IfOk};
+ghost use Rattle.std.specs.Prelude.{◌≡◌, ◌≤◌, IsTrue, IfOk, IfErr};
 ghost use Rattle.workers.specs.AskOrder.{PlaysInTurn};
 ghost use Rattle.workers.specs.Channel.{AreOneChannel};
 ghost use Rattle.workers.specs.Imaging.{KeepsBack, IsAtRest as IsResting};
@@ -16,7 +16,7 @@ use crate::signals::Signals;
 use crate::steps::{owe_due_switch, owe_next_tick, pay, pop, stop, write_image, write_log};
 use disk_model::Disk;
 use shared_capture::Method;
-use std::alloc::{AllocError, Global};
+use std::alloc::Global;
 use std::sync::Wait;
 use workers::{AskReceiver, Checkpointer, Gate, LogWriter, Mutator, meet_workers, open};
 
@@ -40,7 +40,7 @@ impl<M: Method, D: Disk + Drop, A: Gate + Drop, B: Gate + Drop, C: Gate + Drop> 
     C,
 > {
     /// The workers of a world as they begin. The mutator takes these asks. A round is due after
-    /// every `every` ticks.
+    /// every `every` ticks. Without memory for them the world is given back.
     pub fn begin<R: Wait>(
         rt: &R,
         alloc: Global,
@@ -48,7 +48,7 @@ impl<M: Method, D: Disk + Drop, A: Gate + Drop, B: Gate + Drop, C: Gate + Drop> 
         opened: Opened<M, D>,
         asks: AskReceiver,
         every: u32,
-    ) -> Result<Self, AllocError>
+    ) -> Result<Self, Opened<M, D>>
         requires { IsWhole D.Disk opened }
         ensures begun { IfOk result (λ made.
             IsBegun opened every (workers_of made.mutator made.checkpointer made.log_writer)) }
@@ -56,9 +56,14 @@ impl<M: Method, D: Disk + Drop, A: Gate + Drop, B: Gate + Drop, C: Gate + Drop> 
         ensures images_rest { IfOk result (λ made.
             IsResting made.checkpointer.images.keeper made.checkpointer.back) }
         ensures log_rests { IfOk result (λ made. IsAtRest made.log_writer) }
+        ensures kept { IfErr result (λ left. left ≡ opened) }
     {
-        let signals = Signals::new(alloc)?;
-        let (to, from) = open(rt, alloc, opened.ended)?;
+        let Ok(signals) = Signals::new(alloc) else {
+            return Err(opened);
+        };
+        let Ok((to, from)) = open(rt, alloc, opened.ended) else {
+            return Err(opened);
+        };
         let Opened {
             front,
             back,
@@ -76,22 +81,20 @@ impl<M: Method, D: Disk + Drop, A: Gate + Drop, B: Gate + Drop, C: Gate + Drop> 
             images: (out, reported),
             down: (reported_down, heard),
         } = signals;
-        let mutator = Mutator::new(play_gate, alloc, asks, front, to, ended, every, bell, heard);
-        let checkpointer = Checkpointer::new(image_gate, back, out, images, rung);
-        let log_writer = LogWriter::new(
-            alloc,
-            log_gate,
-            from,
-            reported,
-            log,
-            reported_down,
-            ended,
-        )?;
-        Ok(Together {
-            mutator,
-            checkpointer,
-            log_writer,
-        })
+        match LogWriter::new(alloc, log_gate, from, reported, log, reported_down, ended) {
+            Ok(log_writer) => Ok(Together {
+                mutator: Mutator::new(play_gate, alloc, asks, front, to, ended, every, bell, heard),
+                checkpointer: Checkpointer::new(image_gate, back, out, images, rung),
+                log_writer,
+            }),
+            Err(log) => Err(Opened {
+                front,
+                back,
+                images,
+                log,
+                ended,
+            }),
+        }
     }
 
     /// Makes the step. Whatever the steps before it were, the four files are sound after it, on
@@ -195,7 +198,7 @@ pub fn run_world<
     asks: AskReceiver,
     every: u32,
     steps: Vec<Next>,
-) -> Result<Together<M, D, A, B, C>, AllocError>
+) -> Result<Together<M, D, A, B, C>, Opened<M, D>>
     requires { IsWhole D.Disk opened }
     ensures sound { IsTrue D.honest → IfOk result (λ world.
         StaysSound D.Disk opened world.mutator world.checkpointer world.log_writer) }

@@ -4,7 +4,7 @@ ghost use Rattle.worker_steps.specs.Stopped.{StaysSound};
 ghost use Rattle.worker_steps.specs.Begun.{IsWhole};
 
 use crate::meeting::meet_stopped;
-use crate::threads::{NotStarted, StoppedWorkers, start, stop};
+use crate::threads::{NotBegun, StoppedWorkers, no_memory, start, stop};
 use crate::watch::Watch;
 use disk_model::Disk;
 use shared_capture::Method;
@@ -33,14 +33,16 @@ pub fn stop_after<
     opened: Opened<M, D>,
     every: u32,
     play: F,
-) -> Result<StoppedWorkers<M, D, Cut, Cut, Cut>, NotStarted>
+) -> Result<StoppedWorkers<M, D, Cut, Cut, Cut>, NotBegun<D>>
     requires whole { IsWhole D.Disk opened }
     requires plays { F.IsAlwaysCallable play }
     ensures sound { IsTrue D.honest → IfOk result (λ stopped.
         StaysSound D.Disk opened stopped.mutator stopped.checkpointer stopped.log_writer) }
 {
-    let spins = Spins::on_this_machine(rt, alloc)?;
-    let (workers, sessions) = start(rt, alloc, cuts, watch, opened, every, spins)?;
+    let Ok(spins) = Spins::on_this_machine(rt, alloc) else {
+        return Err(no_memory(opened));
+    };
+    let (workers, sessions) = start(rt, alloc, cuts, watch, opened, every, &spins)?;
     play(sessions);
     let mut stopped = stop(rt, workers);
     meet_stopped(&mut stopped);

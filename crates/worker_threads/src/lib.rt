@@ -14,6 +14,8 @@ mod world_opening;
 pub use cuts::stop_after;
 // Stopped workers are the ends of a world's threads.
 pub use meeting::{meet_stopped, meet_stopped as ends_meet};
-pub use threads::{NotStarted, StoppedWorkers, StoppedWorkers as Ends, Workers, start, stop};
+pub use threads::{
+    NotBegun, NotStarted, StoppedWorkers, StoppedWorkers as Ends, Workers, no_memory, start, stop,
+};
 pub use watch::{Acked, TickWatch, Watch};
-pub use world_opening::start_world;
+pub use world_opening::{into_files, start_world};

@@ -1,18 +1,20 @@
 //! The start and the stop of a world's workers, and their ends.
-ghost use Rattle.std.specs.Prelude.{◌≡◌, true, IfOk};
+ghost use Rattle.std.specs.Prelude.{◌≡◌, true, IfOk, IfErr, IfSome};
 ghost use Rattle.std.specs.Thread.{IsSend};
 ghost use Rattle.workers.specs.AskChannel.{AreOneAskChannel};
 ghost use Rattle.workers.specs.Channel.{AreOneChannel};
 ghost use Rattle.worker_steps.specs.Stopped.{acknowledged_by};
 ghost use Rattle.worker_steps.specs.Begun.{IsWhole, IsBegun, workers_of};
 ghost use Rattle.worker_threads.specs.Kept.{MayTake, MayWrite, StopsFront, StopsBack, StopsLog};
+ghost use Rattle.worker_threads.specs.Opening.{GivesBack, files_of};
 
 use crate::promises::{SameCheckpointer, SameLogWriter, SameMutator};
 use crate::watch::{TickWatch, Watch};
 use crate::work::spawn;
+use crate::world_opening::into_files;
 use action_log::Record;
 use circular_buffer::HeapCircularBuffer;
-use disk_model::Disk;
+use disk_model::{Disk, FourFiles};
 use shared_capture::{Back, Front, Method, SignalIn, SignalOut};
 use std::alloc::{AllocError, Global};
 use std::marker::Model;
@@ -43,6 +45,13 @@ impl From<AllocError> for NotStarted {
     fn from(_: AllocError) -> Self {
         NotStarted::NoMemory
     }
+}
+
+/// Why the workers of a world aren't started. Its files are given back if no worker ran.
+#[derive(Drop)]
+pub struct NotBegun<D: Disk + Drop> {
+    pub why: NotStarted,
+    pub files: Option<FourFiles<D>>,
 }
 
 /// The workers of a world, each in its thread. Contracts see them as they began. If this is
@@ -106,11 +115,6 @@ impl<M: Method, D: Disk + Drop, A: Gate + Drop, B: Gate + Drop, C: Gate + Drop> 
     }
 }
 
-type Players<M, D, A, B> = (
-    PromisedHandle<Mutator<M, A>, SameMutator<M, A>>,
-    PromisedHandle<Checkpointer<M, D, B>, SameCheckpointer<M, D, B>>,
-);
-
 /// Starts the workers of a world. A round is due after every `every` ticks. The batches that the
 /// sessions of the returned channel send are run. The workers spin for work like this. The log
 /// writer gets the watch itself, the others get clones. If the start is refused, no thread is left
@@ -130,22 +134,49 @@ pub fn start<
     watch: W,
     opened: Opened<M, D>,
     every: u32,
-    spins: Spins,
-) -> Result<(Workers<M, D, A, B, C>, AskChannel), NotStarted>
+    spins: &Spins,
+) -> Result<(Workers<M, D, A, B, C>, AskChannel), NotBegun<D>>
     requires { IsWhole D.Disk opened }
     ensures begun { IfOk result (λ made. IsBegun opened every made.0) }
     ensures asks { IfOk result (λ made. AreOneAskChannel made.0.mutator.asks.end made.1.end) }
     ensures sessions { IfOk result (λ made. made.1.next ≡ 0) }
+    ensures refused { IfErr result (GivesBack (files_of opened.images opened.log)) }
 {
-    let (sessions, mut asks) = AskChannel::open(alloc)?;
-    let spins_too = spins.clone()?;
+    let Ok((sessions, mut asks)) = AskChannel::open(alloc) else {
+        return Err(no_memory(opened));
+    };
+    let Ok(copies) = copies(&watch, spins) else {
+        return Err(no_memory(opened));
+    };
+    let (watch_too, last_watch, spins, spins_too) = copies;
     asks.spin_by(spins);
-    let mut begun = Together::begin(rt, alloc, gates, opened, asks, every)?;
-    begun.log_writer.spin_by(spins_too);
-    Ok((start_threads(rt, watch, begun)?, sessions))
+    match Together::begin(rt, alloc, gates, opened, asks, every) {
+        Ok(begun) => {
+            let mut begun = begun;
+            begun.log_writer.spin_by(spins_too);
+            start_threads(rt, (watch_too, last_watch, watch), begun, sessions)
+        }
+        Err(opened) => Err(no_memory(opened)),
+    }
 }
 
-// Starts the threads. If one can't be made, the others end, since the channels between them close.
+// Copies for the workers: of the watch, and of the count of spins.
+fn copies<W: Clone>(watch: &W, spins: &Spins) -> Result<(W, W, Spins, Spins), AllocError> {
+    let (watch_too, last_watch) = (watch.clone()?, watch.clone()?);
+    Ok((watch_too, last_watch, spins.clone()?, spins.clone()?))
+}
+
+/// The refusal of a start for which there is no memory.
+pub fn no_memory<M: Method, D: Disk + Drop>(opened: Opened<M, D>) -> NotBegun<D>
+    ensures { GivesBack (files_of opened.images opened.log) result }
+{
+    let why = NotStarted::NoMemory;
+    let files = Some(into_files(opened.images, opened.log));
+    NotBegun { why, files }
+}
+
+// Starts the threads, that of the mutator first, which has no file. If one can't be made, the
+// others end: the mutator once no session can send a batch, and then the log writer.
 fn start_threads<
     R: Threads + Wait + Copy + Send + 'static,
     M: Method + Send + 'static,
@@ -154,52 +185,47 @@ fn start_threads<
     B: Gate + Drop + Send + 'static,
     C: Gate + Drop + Send + 'static,
     W: Watch<D> + Clone + Send + 'static,
->(rt: &R, watch: W, begun: Together<M, D, A, B, C>) -> Result<Workers<M, D, A, B, C>, NotStarted>
-    requires takes { MayTake begun.checkpointer }
-    requires writes { MayWrite begun.log_writer }
-    ensures { IfOk result (λ workers.
-        workers ≡ workers_of begun.mutator begun.checkpointer begun.log_writer) }
-{
-    let watch_too = watch.clone()?;
-    let log_writer = start_log_writer(rt, watch, begun.log_writer)?;
-    match start_players(rt, watch_too, begun.mutator, begun.checkpointer) {
-        Ok((mutator, checkpointer)) => Ok(Workers {
-            mutator,
-            checkpointer,
-            log_writer,
-        }),
-        Err(error) => {
-            log_writer.join(rt);
-            Err(error)
-        }
-    }
-}
-
-// Starts the two workers that hold a seat.
-fn start_players<
-    R: Threads + Wait + Copy + Send + 'static,
-    M: Method + Send + 'static,
-    D: Disk + Drop + Send + 'static,
-    A: Gate + Drop + Send + 'static,
-    B: Gate + Drop + Send + 'static,
-    W: Watch<D> + Clone + Send + 'static,
 >(
     rt: &R,
-    watch: W,
-    mutator: Mutator<M, A>,
-    checkpointer: Checkpointer<M, D, B>,
-) -> Result<Players<M, D, A, B>, NotStarted>
-    requires { MayTake checkpointer }
-    ensures mutator { IfOk result (λ players. players.0.promise.0.value ≡ mutator) }
-    ensures checkpointer { IfOk result (λ players. players.1.promise.0.value ≡ checkpointer) }
+    watches: (W, W, W),
+    begun: Together<M, D, A, B, C>,
+    sessions: AskChannel,
+) -> Result<(Workers<M, D, A, B, C>, AskChannel), NotBegun<D>>
+    requires takes { MayTake begun.checkpointer }
+    requires writes { MayWrite begun.log_writer }
+    ensures workers { IfOk result (λ made.
+        made.0 ≡ workers_of begun.mutator begun.checkpointer begun.log_writer) }
+    ensures sessions { IfOk result (λ made. made.1 ≡ sessions) }
+    ensures refused { IfErr result
+        (GivesBack (files_of begun.checkpointer.images begun.log_writer.log)) }
 {
-    let watch_too = watch.clone()?;
-    let checkpointer = start_checkpointer(rt, watch_too, checkpointer)?;
-    match start_mutator(rt, watch, mutator) {
-        Ok(mutator) => Ok((mutator, checkpointer)),
-        Err(error) => {
-            checkpointer.join(rt);
-            Err(error)
+    let why = NotStarted::NoThread;
+    let Some(mutator) = start_mutator(rt, watches.0, begun.mutator) else {
+        let images = begun.checkpointer.into_images();
+        let files = Some(into_files(images, begun.log_writer.into_log()));
+        return Err(NotBegun { why, files });
+    };
+    let log_writer = start_log_writer(rt, watches.2, begun.log_writer);
+    let checkpointer = start_checkpointer(rt, watches.1, begun.checkpointer);
+    match (log_writer, checkpointer) {
+        (Some(log_writer), Some(checkpointer)) => {
+            let workers = Workers {
+                mutator,
+                checkpointer,
+                log_writer,
+            };
+            Ok((workers, sessions))
+        }
+        (log_writer, checkpointer) => {
+            drop(sessions);
+            mutator.join(rt);
+            if let Some(log_writer) = log_writer {
+                log_writer.join(rt);
+            }
+            if let Some(checkpointer) = checkpointer {
+                checkpointer.join(rt);
+            }
+            Err(NotBegun { why, files: None })
         }
     }
 }
@@ -218,8 +244,8 @@ fn start_mutator<
     rt: &R,
     watch: W,
     mutator: Mutator<M, G>,
-) -> Result<PromisedHandle<Mutator<M, G>, SameMutator<M, G>>, NotStarted>
-    ensures { IfOk result (λ handle. handle.promise.0.value ≡ mutator) }
+) -> Option<PromisedHandle<Mutator<M, G>, SameMutator<M, G>>>
+    ensures { IfSome result (λ handle. handle.promise.0.value ≡ mutator) }
 {
     crosses::<AskReceiver>();
     crosses::<Front<M>>();
@@ -241,9 +267,9 @@ fn start_checkpointer<
     rt: &R,
     watch: W,
     checkpointer: Checkpointer<M, D, G>,
-) -> Result<PromisedHandle<Checkpointer<M, D, G>, SameCheckpointer<M, D, G>>, NotStarted>
+) -> Option<PromisedHandle<Checkpointer<M, D, G>, SameCheckpointer<M, D, G>>>
     requires { MayTake checkpointer }
-    ensures { IfOk result (λ handle. handle.promise.0.value ≡ checkpointer) }
+    ensures { IfSome result (λ handle. handle.promise.0.value ≡ checkpointer) }
 {
     crosses::<Back<M>>();
     crosses::<SignalOut>();
@@ -260,9 +286,9 @@ fn start_log_writer<
     rt: &R,
     watch: W,
     log_writer: LogWriter<D, G>,
-) -> Result<PromisedHandle<LogWriter<D, G>, SameLogWriter<D, G>>, NotStarted>
+) -> Option<PromisedHandle<LogWriter<D, G>, SameLogWriter<D, G>>>
     requires { MayWrite log_writer }
-    ensures { IfOk result (λ handle. handle.promise.0.value ≡ log_writer) }
+    ensures { IfSome result (λ handle. handle.promise.0.value ≡ log_writer) }
 {
     crosses::<ItemReceiver>();
     crosses::<SignalIn>();

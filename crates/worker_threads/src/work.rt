@@ -1,7 +1,6 @@
 //! A worker in its own thread.
-ghost use Rattle.std.specs.Prelude.{◌≡◌, IfOk, IfErr};
+ghost use Rattle.std.specs.Prelude.{◌≡◌, IfSome};
 
-use crate::threads::NotStarted;
 use std::sync::Wait;
 use std::thread::{self, Promise, PromisedHandle, Threads};
 
@@ -19,17 +18,16 @@ pub(crate) trait Work<X> {
         ensures { ended self result };
 }
 
-/// Gives a worker a thread.
+/// Gives a worker a thread, if the system has one.
 pub(crate) fn spawn<
     R: Threads + Wait + Copy + Send + 'static,
     X: Send + Drop + 'static,
     T: Work<X> + Send + Drop + 'static,
     P: Promise<T> + Drop,
->(rt: &R, promise: P, with: X, worker: T) -> Result<PromisedHandle<T, P>, NotStarted>
+>(rt: &R, promise: P, with: X, worker: T) -> Option<PromisedHandle<T, P>>
     requires ready { T.ready worker }
     requires keeps { (end : T) → T.ended worker end → P.kept_by promise end }
-    ensures promise { IfOk result (λ handle. handle.promise ≡ promise) }
-    ensures thread { IfErr result (λ reason. reason ≡ NotStarted.NoThread) }
+    ensures { IfSome result (λ handle. handle.promise ≡ promise) }
 {
     let here = *rt;
     let run = move || -> T
@@ -37,7 +35,7 @@ pub(crate) fn spawn<
         ensures { T.ended worker result }
     { worker.work(&here, with) };
     match thread::spawn_with(rt, promise, run) {
-        Ok(handle) => Ok(handle),
-        Err(_) => Err(NotStarted::NoThread),
+        Ok(handle) => Some(handle),
+        Err(_) => None,
     }
 }

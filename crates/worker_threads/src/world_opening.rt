@@ -57,6 +57,24 @@ pub fn start_world<M: Method, C: Capture, D: Disk + Drop>(
     }
 }
 
+/// The four files of two keepers.
+pub fn into_files<D: Disk + Drop>(images: ImageWriter<D>, log: Log<D>) -> FourFiles<D>
+    ensures { result ≡ files_of images log }
+{
+    let ImageWriter {
+        keeper: _,
+        image_a,
+        image_b,
+    } = images;
+    let Log { keeper: _, a, b } = log;
+    FourFiles {
+        image_a,
+        image_b,
+        log_a: a,
+        log_b: b,
+    }
+}
+
 // Opens a world from its parts, once its start has ended, with two seats over its words.
 fn seated<M: Method, D: Disk + Drop>(
     alloc: Global,

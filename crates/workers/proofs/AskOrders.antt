@@ -1,15 +1,13 @@
 -- Each step of the ends of the channel of asks keeps the turns of the sessions.
-use Rattle.std.proofs.Common.{arith, ◌≡◌, ◌≢◌, ◌<◌, ◌≤◌, ◌+◌, ◌==◌, ◌⊎◌, inl, inr, ℕ, zero, suc, cond, true, false, List, [], ◌∷◌}
-use Rattle.std.proofs.Common.{◌++◌, All, length, length-append, append-nil, set, sym, refl, ap, ap₂, ◌∙◌, subst}
+use Rattle.std.proofs.Common.{arith, ◌≡◌, ◌≢◌, ◌<◌, ◌+◌, ◌==◌, ◌⊎◌, inl, inr, ℕ, zero, suc, cond, true, false, List, [], ◌∷◌}
+use Rattle.std.proofs.Common.{◌++◌, All, length, length-append, append-nil, set, sym, refl, ap, ◌∙◌, subst}
 use mathlib.Core.Option.{some, some-injective, some-ne-none}
 use lib.ListN.{get_elem?}
-use Rattle.std.specs.Prelude.{AllPairs}
 use Rattle.std.proofs.lemmas.Bool.{ne_eqb}
 use Rattle.std.proofs.lemmas.Bool.Decides.{eqb_tells}
 use Rattle.std.proofs.lemmas.List.{append_assoc}
 use Rattle.std.proofs.lemmas.List.Sums.{sum_by-cons, sum_by-append, sum_by_push}
 use Rattle.std.proofs.lemmas.List.Elements.{All-nil, All-cons, All-head, All-tail, All-push, All-weaker}
-use Rattle.std.proofs.lemmas.List.Kept.{AllPairs-cons}
 use Rattle.crossbeam_channel.specs.Fifo.{Pushes, Pops, Forks, Learns}
 use Rattle.shared_capture.proofs.Views.{set_knows, split_knows}
 use Rattle.workers.specs.declared.ask_rule.AskView.{AskView}

@@ -5,13 +5,6 @@ use Rattle.workers.specs.declared.log_writer.Log.{Log}
 use Rattle.workers.specs.Logging.{LogReportsFaults}
 
 module _ {D : Type 0} (faults : D → ℕ) where
-  pub faults_same : (old new : Log D) → new ≡ old → LogReportsFaults faults old new
-  faults_same old new same = record {
-    down = λ up fell. absurd (let e : true ≡ false = sym fell ∙ (ap (λ (l : Log D). l.keeper.down) same ∙ up) in cc);
-    up = λ _. (ap (λ (l : Log D). faults l.a) same, ap (λ (l : Log D). faults l.b) same);
-    stays = λ _. same;
-  }
-
   module _ (u v w : Log D) (s : LogReportsFaults faults u v) (t : LogReportsFaults faults v w) where
     down_by : (down : Bool) → v.keeper.down ≡ down → u.keeper.down ≡ false → w.keeper.down ≡ true → FaultsBy true (faults u.a) (faults w.a) (faults u.b) (faults w.b)
     down_by true is up fell = subst (λ (x : Log D). FaultsBy true (faults u.a) (faults x.a) (faults u.b) (faults x.b)) (sym (t.stays is)) (s.down up is)

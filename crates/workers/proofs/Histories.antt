@@ -20,7 +20,7 @@ use Rattle.workers.specs.Items.{Goes, items_end, end_after}
 use Rattle.workers.specs.Posts.{AskedBatch}
 use Rattle.workers.specs.AskOrder.{AreNumbered, PlaysInTurn}
 use Rattle.workers.specs.AskChannel.{Taking}
-use Rattle.workers.specs.Channel.{Pushing, with_refusal}
+use Rattle.workers.specs.Channel.{Pushing}
 use Rattle.workers.specs.Worlds.{World, after_item, Leads, begun, world_of, IsUnchanged, AreUnchanged, IsLate, History, Counts}
 use Rattle.workers.specs.Mutating.{Playing, item_of, Owes, IsTaken, IsMutator}
 use Rattle.workers.proofs.Numbers.{end_more}
@@ -192,19 +192,6 @@ module _ (m : Playing) (to : Pushing) (is : IsMutator m) (left : Option Owed) (n
       → IsMutator (record m { to = to; since = 0; stopped = false; owed = left })
   paid_switch number owes pushed = let counts = is.counts in
       paid_item (Switch number) m.ended 0 owes pushed (record { count = refl; all = omega (arith, owes.goes.0, counts.all, counts.count) }) is.most
-
-  -- the push was refused
-  pub unpaid : to ≡ with_refusal m.to → IsMutator (record m { to = to; owed = left })
-  unpaid refused = subst (λ (t : Pushing). IsMutator (record m { to = t; owed = left })) (sym refused) (record {
-    history = is.history;
-    in_turn = is.in_turn;
-    counts = is.counts;
-    rising = is.rising;
-    most = is.most;
-    flags = is.flags;
-    unchanged = is.unchanged;
-    owes = owes_none _;
-  })
 
 -- the last round is that of the switch
 pub last_owed : (w : World) (items : List Item) (number : ℕ) (v : World) → Leads w (items ++ Switch number ∷ []) v

@@ -259,9 +259,6 @@ module _ {D : Type 0} (faults : D → ℕ) where
   faults_step answer.Down old new some down (inl was) = absurd (not_down old.keeper some was)
   faults_step answer.Down old new some down (inr failed) = record { down = λ _. failed; up = λ up. absurd (up (down.0 refl)) }
 
-  pub faults_none : (images : ImageWriter D) → 0 < left_of images.keeper → ReportsFaults faults images images
-  faults_none images some = record { down = λ is. absurd (not_down images.keeper some is); up = λ _. (refl, refl) }
-
 -- ---- a turn
 
 pub begun_busy : (tick : ℕ) (keeper : Progress) → HasRound (begun_keeper tick keeper)

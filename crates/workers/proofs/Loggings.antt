@@ -171,15 +171,6 @@ over_append [] ys none = absurd (cc)
 over_append (x ∷ xs) ys none = end_append (x ∷ xs) ys none
 
 module _ {D : Type 0} where
-  pub took_none : (w : Logging D) → Took w w []
-  took_none w = record {
-    popped = sym (append-nil w.from.items);
-    end = refl;
-    ring = ap (λ (l : List Record). let b : Buffer Record = record w.ring { items = l } in b) (sym (append-nil w.ring.items));
-    answers = ap (λ (l : List Unposted). let a : Answering = record w.answers { waiting = l } in a) (sym (append-nil w.answers.waiting));
-    same = refl;
-  }
-
   pub took_then : (u v w : Logging D) (xs ys : List Item) → Took u v xs → Took v w ys → Took u w (xs ++ ys)
   took_then u v w xs ys s t = record {
     popped = t.popped ∙ (ap (λ (l : List Item). l ++ ys) s.popped ∙ append_assoc u.from.items xs ys);

@@ -1,8 +1,7 @@
 -- Numbered items.
-use Rattle.std.proofs.Common.{arith, inl, inr, ◌⊎◌, max, length, length-append, ◌≤◌, ◌≡◌, ℕ, List, [], ◌∷◌, ◌++◌, refl, sym, ap, ◌∙◌, subst}
+use Rattle.std.proofs.Common.{arith, inl, inr, ◌⊎◌, max, ◌≤◌, ◌≡◌, ℕ, List, [], ◌∷◌, ◌++◌, refl, sym, ap, ◌∙◌, subst}
 use Rattle.std.proofs.Math.Nat.{max-eq_left, max-eq_right}
 use Rattle.std.proofs.lemmas.Bool.{cases_lt}
-use Rattle.action_log.specs.declared.record.Record.{Record}
 use Rattle.action_log.specs.Queue.{QueueEnd}
 use Rattle.workers.specs.declared.item.Item.{Item}
 use Rattle.workers.specs.declared.item.Item.TheVariants.{Start, Tick, Switch, Stop}
@@ -77,6 +76,3 @@ sent v w x is = is ∙ ap (λ (u : View). Pushes (pushed_of u)) (sym is)
 
 pub end_more : (items : List Item) (x : Item) → items_end (items ++ x ∷ []) ≡ end_after (items_end items) x
 end_more items x = end_snoc (record { base = 0; count = 0 }) items x
-
-pub no_more : (queue taken left : List Record) (most : ℕ) → queue ≡ taken ++ left → length queue ≤ most → length left ≤ most
-no_more queue taken left most front few = omega (arith, ap length front, length-append taken left, few)

@@ -1,5 +1,5 @@
 -- The receipts of the steps of the log.
-use Rattle.std.proofs.Common.{◌≡◌, ◌≢◌, ℕ, Bool, true, false, Option, None, refl, ap, subst}
+use Rattle.std.proofs.Common.{◌≡◌, ℕ, Option, None, refl, ap, subst}
 use Rattle.circular_buffer.specs.Buffer.{Buffer}
 use Rattle.action_log.specs.declared.answer.LogAnswer.{LogAnswer}
 use Rattle.action_log.specs.declared.answer.LogAnswer.TheVariants as answer
@@ -9,7 +9,7 @@ use Rattle.action_log.specs.declared.record.Record.{Record}
 use Rattle.shared_capture.specs.SignalWord.{SignalState, with_number}
 use Rattle.workers.specs.declared.log_writer.Log.{Log}
 use Rattle.workers.specs.Answering.{Answering}
-use Rattle.workers.specs.Logging.{Logging, receipt_in, receipt_at, receipt_by, receipt_of, Acknowledges}
+use Rattle.workers.specs.Logging.{Logging, receipt_in, receipt_at, receipt_of, Acknowledges}
 
 no_receipt : (given : LogAnswer) → ((tick : ℕ) → given ≡ answer.Acked tick → ⊥) → receipt_in given ≡ None
 no_receipt (answer.Acked tick) never = absurd (never tick refl)
@@ -32,13 +32,6 @@ step_receipt given phase.Header last only is = no_receipt given (λ tick e. let 
 step_receipt given phase.HeaderSync last only is = no_receipt given (λ tick e. let at = only tick e in cc)
 step_receipt given phase.Opening last only is = no_receipt given (λ tick e. let at = only tick e in cc)
 step_receipt given phase.OpeningSync last only is = no_receipt given (λ tick e. let at = only tick e in cc)
-
--- the receipt of a cover is that of its answer
-pub cover_receipt : (given : LogAnswer) (p : Phase) (last : ℕ) → given ≢ answer.Idle → receipt_in given ≡ receipt_by given p last
-cover_receipt (answer.Acked tick) p last some = refl
-cover_receipt answer.Idle p last some = absurd (some refl)
-cover_receipt answer.Working p last some = refl
-cover_receipt answer.Down p last some = refl
 
 -- A step of the log with this receipt acknowledges what it posts.
 pub acknowledged : {D : Type 0} (seen w : Logging D) → w ≡ seen → (covers : SignalState) (tick : ℕ) (log : Log D)

@@ -26,12 +26,6 @@ first_later receipt number waiting first next is later =
     let known : AreNext number (first ∷ front.0) = subst (AreNext number) front.1 next in
     subst (AreLater receipt) (sym front.1) (all_later receipt number (first ∷ front.0) known (omega (arith, known.0, later)))
 
-pub rest_next : (number : ℕ) (waiting : List Unposted) (first : Unposted) (rest : List Unposted) → AreNext number waiting
-    → waiting ≡ first ∷ rest → (first.number ≡ number + 1) × AreNext first.number rest
-rest_next number waiting first rest next is =
-    let known : AreNext number (first ∷ rest) = subst (AreNext number) is next in
-    (known.0, subst (λ n. AreNext n rest) (sym known.0) known.1)
-
 pub posts_more : (receipt : ℕ) (old mid : Answering) (first : Unposted) (rest : List Unposted) → Posts receipt old mid
     → mid.waiting ≡ first ∷ rest → first.number ≤ receipt → first.number ≡ mid.answered + 1
     → Posts receipt old (record mid { waiting = rest; answered = first.number; posted = first.number })

@@ -121,6 +121,13 @@ impl<M: Method, D: Disk + Drop, G: Gate + Drop> Checkpointer<M, D, G> {
         &self.images
     }
 
+    /// The same, of a checkpointer that doesn't go on.
+    pub fn into_images(self) -> ImageWriter<D>
+        ensures { result ≡ self.images }
+    {
+        self.images
+    }
+
     /// Writes the image of the open round, publishes its tick and returns it. If no round is
     /// open it waits for the bell. A round whose image can't be written stays open, so that
     /// no other is begun.

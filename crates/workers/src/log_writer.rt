@@ -5,7 +5,7 @@ mod holding;
 mod keep;
 
 ghost use Rattle.std.specs.Prelude.{◌≡◌, ◌≢◌, ◌↔◌, ◌⊎◌, ◌+◌, ◌<◌, ◌≤◌, ◌++◌, ◌∷◌, [], ℕ, true};
-ghost use Rattle.std.specs.Prelude.{false, List, length, IfOk, IsTrue};
+ghost use Rattle.std.specs.Prelude.{false, List, length, IfOk, IfErr, IsTrue};
 ghost use Rattle.world_ticks.specs.declared.tick.TheConstants.{TICK_MAX};
 ghost use Rattle.disk_model.specs.Disk.{OneCalledAtMostOnce};
 ghost use Rattle.action_log.specs.declared.answer.LogAnswer.TheVariants.{Idle};
@@ -36,7 +36,7 @@ pub(crate) use holding::Holding;
 use keep::{keep, lose};
 use restart::QUEUE_RECORDS;
 use shared_capture::{SignalIn, SignalOut};
-use std::alloc::{AllocError, Global};
+use std::alloc::Global;
 use std::marker::Model;
 use std::snapshot::Snapshot;
 use std::sync::Wait;
@@ -83,7 +83,8 @@ impl<D: Disk + Drop, G: Gate + Drop> Model for LogWriter<D, G> {
 
 impl<D: Disk + Drop, G: Gate + Drop> LogWriter<D, G> {
     /// A log writer for a log that begins after this tick. Its keeper has just made the start, the
-    /// channel was just opened, and no tick of an open image has come yet.
+    /// channel was just opened, and no tick of an open image has come yet. Without memory for its
+    /// queues it gives the log back.
     pub fn new(
         alloc: Global,
         gate: G,
@@ -92,7 +93,7 @@ impl<D: Disk + Drop, G: Gate + Drop> LogWriter<D, G> {
         log: Log<D>,
         reported_down: SignalOut,
         tick: u64,
-    ) -> Result<Self, AllocError>
+    ) -> Result<Self, Log<D>>
         requires opened { from.items ≡ Start tick ∷ [] }
         requires unreported { reported_down.numbers ≡ [] }
         requires most { tick ≤ TICK_MAX }
@@ -100,9 +101,14 @@ impl<D: Disk + Drop, G: Gate + Drop> LogWriter<D, G> {
         requires fits { IsTrue D.honest → FitsFiles log.keeper (D.content log.a) (D.content log.b) }
         ensures begun { IfOk result (λ w. w ≡ writer_at from covers reported_down log tick) }
         ensures rest { IfOk result (λ w. IsAtRest w) }
+        ensures kept { IfErr result (λ left. left ≡ log) }
     {
-        let ring = HeapCircularBuffer::with_capacity(alloc, QUEUE_RECORDS)?;
-        let answers = Answers::new(alloc, QUEUE_RECORDS, tick)?;
+        let Ok(ring) = HeapCircularBuffer::with_capacity(alloc, QUEUE_RECORDS) else {
+            return Err(log);
+        };
+        let Ok(answers) = Answers::new(alloc, QUEUE_RECORDS, tick) else {
+            return Err(log);
+        };
         let opening = Snapshot::of(&log);
         Ok(LogWriter {
             gate,
@@ -145,6 +151,13 @@ impl<D: Disk + Drop, G: Gate + Drop> LogWriter<D, G> {
         ensures { result.now ≡ self.now.log }
     {
         &self.log
+    }
+
+    /// The same, of a log writer that doesn't go on.
+    pub fn into_log(self) -> Log<D>
+        ensures { result ≡ self.log }
+    {
+        self.log
     }
 
     /// The greatest tick of a receipt, or the tick of the start if there is no receipt.
