@@ -1,7 +1,7 @@
-pub mod MakingLemmas
+pub mod NewWorldLemmas
 pub mod WordsLemmas
 pub mod ForwardLemmas
 pub mod LostLemmas
 pub mod EndingLemmas
-pub mod FoundLemmas
-pub mod CompletingLemmas
+pub mod NewWorldFilesLemmas
+pub mod CreateLemmas

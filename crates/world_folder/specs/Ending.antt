@@ -124,6 +124,12 @@ IsFault (Server LogDown) = ⊥
 IsFault (ending.Unwell why) = ⊥
 IsFault other = Unit {0}
 
+-- the ending says that a line wasn't printed
+abbrev pub IsOfPrint : Ending → Type 0
+IsOfPrint (ending.Stream failure) = Unit {0}
+IsOfPrint (Fault NoMemory) = Unit {0}
+IsOfPrint other = ⊥
+
 -- the command did its work, on a world that may be older or not
 abbrev pub IsDone : Ending → Type 0
 IsDone Ran = Unit {0}

@@ -7,7 +7,7 @@ use Rattle.std.specs.declared.io.ErrorKind.TheVariants.{OutOfMemory}
 use Rattle.disk_model.specs.declared.four_files.FourFiles.{FourFiles}
 use Rattle.world_folder.specs.declared.entry.Entry.{Entry}
 use Rattle.world_folder.specs.declared.guard.Guard.{Guard}
-use Rattle.world_folder.specs.declared.locks.LockState.{LockState}
+use Rattle.file_disk.specs.declared.locks.LockState.{LockState}
 use Rattle.disk_model.specs.declared.world_file.WorldFile.{WorldFile}
 use Rattle.disk_model.specs.declared.world_file.WorldFile.TheVariants.{ImageA, ImageB, LogA, LogB}
 

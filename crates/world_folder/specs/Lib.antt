@@ -4,14 +4,14 @@ pub mod Fault
 pub mod History
 pub mod OwnFile
 pub mod Failing
-pub mod Completing
+pub mod NewWorldFiles
 pub mod Left
 pub mod ReadIn
 pub mod Ending
-pub mod Making
+pub mod NewWorld
 pub mod WordsText
 pub mod Heads
 pub mod Forward
 pub mod Texts
-pub mod Creating
+pub mod CreateCommand
 pub mod Unrecovered

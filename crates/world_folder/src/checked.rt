@@ -10,7 +10,7 @@ ghost use Rattle.world_folder.specs.Lost.{JudgedIn, lost_in};
 ghost use Rattle.world_folder.specs.Unrecovered.{IsUnrecovered};
 
 use crate::ending::Ending;
-use crate::folders::Folder;
+use crate::folders::Source;
 use crate::lost::{Checks, Finding, Lost, OnLoss, judge, read_heads};
 use capture_core::Capture;
 use disk_model::{Disk, FourFiles};
@@ -76,7 +76,7 @@ pub fn recover_checked<C: Capture + Drop, D: Disk>(
 
 /// The checks of a command that looks at the world in a folder, with its guard: a world that is
 /// older than it is named.
-pub fn checks_in<F: Folder>(folder: &mut F, on_loss: OnLoss) -> Result<Checks, Ending>
+pub fn checks_in<F: Source>(folder: &mut F, on_loss: OnLoss) -> Result<Checks, Ending>
     ensures read { IsTrue F.honest → IfOk result (λ checks.
         F.history folder.new ≡ GuardRead checks.guard ∷ F.history folder.old) }
     ensures named { IfOk result (λ checks.

@@ -1,7 +1,7 @@
 ghost use Rattle.std.specs.Prelude.{◌≡◌, Some};
 ghost use Rattle.std.specs.Path.{path_buf_bytes};
-ghost use Rattle.world_folder.specs.Completing.{IsOccupied};
-ghost use Rattle.world_folder.specs.Ending.{IsFault};
+ghost use Rattle.world_folder.specs.NewWorldFiles.{IsOccupied};
+ghost use Rattle.world_folder.specs.Ending.{IsFault, IsOfPrint};
 ghost use Rattle.world_folder.specs.Texts.{filled_text, inside_text, unlisted_text};
 
 use crate::fault::WorldFault;
@@ -274,6 +274,7 @@ impl From<io::Error> for Ending {
 
 /// How the program ends if a line can't be printed.
 pub fn ending_of_print(error: io::Error) -> Ending
+    ensures print { IsOfPrint result }
     ensures fault { IsFault result }
     ensures other { ¬ IsOccupied result }
 {

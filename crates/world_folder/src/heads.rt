@@ -3,6 +3,7 @@
 ghost use Rattle.std.specs.Prelude.{◌≡◌, ◌⊎◌, ◌≤◌, take, length, IsTrue, IfOk, IfErr};
 ghost use Rattle.disk_model.specs.FourFiles.{KeepsFile};
 ghost use Rattle.world_folder.specs.Heads.{opened_tick, opened_base, newest_tick, summary_of};
+ghost use Rattle.world_folder.specs.Heads.{IsHeadAsked};
 
 use disk_model::{Disk, FourFiles};
 use file_format::{OPEN_GATE, Slot, u64_at};
@@ -33,6 +34,7 @@ pub struct Summary {
 pub fn read_head<D: Disk>(alloc: Global, disk: &mut D, most: usize) -> Result<Vec<u8>, Refusal>
     ensures head { IsTrue D.honest
         → IfOk result (λ head. head.items ≡ take most (D.content disk.old)) }
+    ensures asked { IfOk result (λ head. IsHeadAsked D.called head.items disk.old disk.new) }
     ensures kept { IsTrue D.honest → KeepsFile D.Disk disk.old disk.new }
     ensures refused { IfErr result (λ refusal. (refusal ≡ Refusal.Device)
         ⊎ (refusal ≡ Refusal.NoMemory)) }

@@ -2,13 +2,12 @@
 //! served, and how a program over one ends.
 //!
 //! `create` makes the files of a new world, and `create_of_words` those of one with given words.
-//! `open_files` locks the files to serve their world. A `Folder` is where the files are. An
-//! `Ending` says what went wrong, and names the file.
+//! `open_files` locks the files to serve their world. A `Folder` is where the files are, and a
+//! `Source` one that is only read. An `Ending` says what went wrong, and names the file.
 #![tactic(auto)]
 
 mod checked;
-mod completing;
-mod creating;
+mod create_command;
 mod ending;
 mod entry;
 mod escaped;
@@ -21,20 +20,21 @@ mod guard;
 mod guard_file;
 mod heads;
 mod laws;
-mod locks;
 mod lost;
-mod making;
+mod new_world;
+mod new_world_files;
 mod opening;
 mod own_file;
-mod present;
+mod present_files;
 mod reading;
+mod source_file;
 mod system_error;
 mod system_folder;
 mod unfinished;
 mod words_text;
 
 pub use checked::{Checked, NotRecovered, checks_in, recover_checked};
-pub use creating::{create, create_listed, create_of_words, create_zeros};
+pub use create_command::{NotCreated, create, create_of_words};
 pub use ending::{
     Ending, Filled, Inside, NoPort, Occupied, ServerEnding, StandardStream, StreamFailure,
     Unlisted, Unwell,
@@ -43,17 +43,18 @@ pub use entry::{Entry, FileKind, Identity};
 pub use escaped::Escaped;
 pub use exit::{Exit, Statuses};
 pub use fault::{Damaged, Found, WorldFault, stands_in};
-pub use folders::{Folder, Reading, WorldDisk};
+pub use file_disk::LockState;
+pub use folders::{Folder, Reading, Source, WorldDisk};
 pub use found::{FoundReport, WorldReport};
 pub use guard::{GUARD, Guard, Older};
 pub use guard_file::{guarded, new_guard, put_guard, seconds_now, touch_guard};
-pub use heads::{IMAGE_HEAD, SEGMENT_HEAD, Summary, read_head, summary_of};
+pub use heads::{Summary, summary_of};
 pub use laws::{copies_are_of_a_moment, sound_files_have_no_gap};
-pub use locks::{LockState, lock};
 pub use lost::{Checks, Finding, Lost, OnLoss, older_finding};
-pub use making::{Made, make_in, make_of_words};
+pub use new_world::{FirstWords, Made, make_in};
 pub use opening::{Unreadable, blame, ending_for, failure_of, open_files, path_of, sync_names};
-pub use reading::{all_read, explain, read_file, read_folder, read_whole};
+pub use reading::{all_read, explain, read_file, read_folder};
+pub use source_file::SourceFile;
 pub use system_error::Reason;
 pub use system_folder::SystemFolder;
 pub use unfinished::{Unfinished, Why};

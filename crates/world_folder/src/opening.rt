@@ -2,7 +2,7 @@ ghost use Rattle.std.specs.Prelude.{◌≡◌, ◌∷◌, Some, Ok, IsTrue, IfOk
 ghost use Rattle.std.specs.Path.{path_buf_bytes, path_join};
 ghost use Rattle.disk_model.specs.FourFiles.{EachFile, mapped};
 ghost use Rattle.world_folder.specs.Ending.{IsFault, ReportsOf, NamesFile, ReportsFailure};
-ghost use Rattle.world_folder.specs.Completing.{IsOccupied};
+ghost use Rattle.world_folder.specs.NewWorldFiles.{IsOccupied};
 ghost use Rattle.world_folder.specs.Failing.{failure_there, first_failure};
 ghost use Rattle.world_folder.specs.History.{NamesSynced, synced};
 ghost use Rattle.world_folder.specs.Left.{KeepsLeft};
@@ -149,53 +149,68 @@ pub fn path_of(alloc: Global, folder: &str, name: &str) -> Result<PathBuf, Alloc
 }
 
 /// How the program ends if a call of one of a folder's files failed: the first one is named.
-pub fn failure_of<F: Folder>(folder: &F, files: FourFiles<F::File>) -> Ending
+pub fn failure_of<F: Folder>(folder: &F, files: &FourFiles<F::File>) -> Ending
     ensures first { IsTrue F.File.honest
-        → ReportsFailure (F.path folder.now) (first_failure (mapped F.File.failure files)) result }
+        → ReportsFailure (F.path folder.now)
+        (first_failure (mapped F.File.failure files.now)) result }
     ensures other { ¬ IsOccupied result }
     ensures fault { IsFault result }
 {
-    failure_of_present(folder, files.map(|file| Some(file)))
+    let errors = FourFiles {
+        image_a: files.image_a.last_failure(),
+        image_b: files.image_b.last_failure(),
+        log_a: files.log_a.last_failure(),
+        log_b: files.log_b.last_failure(),
+    };
+    ending_of_first(folder, errors)
 }
 
 /// How the program ends if a call failed of one of those files that are there.
-pub fn failure_of_present<F: Folder>(folder: &F, files: FourFiles<Option<F::File>>) -> Ending
+pub fn failure_of_present<F: Folder>(folder: &F, files: &FourFiles<Option<F::File>>) -> Ending
     ensures first { IsTrue F.File.honest
         → ReportsFailure (F.path folder.now)
-        (first_failure (mapped (failure_there F.File.failure) files)) result }
+        (first_failure (mapped (failure_there F.File.failure) files.now)) result }
     ensures other { ¬ IsOccupied result }
     ensures fault { IsFault result }
 {
-    let mut files = files;
-    match first_failure(&mut files) {
+    let errors = FourFiles {
+        image_a: failure_in(&files.image_a),
+        image_b: failure_in(&files.image_b),
+        log_a: failure_in(&files.log_a),
+        log_b: failure_in(&files.log_b),
+    };
+    ending_of_first(folder, errors)
+}
+
+// How the program ends if calls of a folder's files failed so: the first file is named.
+fn ending_of_first<F: Folder>(folder: &F, errors: FourFiles<Option<io::Error>>) -> Ending
+    ensures first { ReportsFailure (F.path folder.now) (first_failure errors) result }
+    ensures other { ¬ IsOccupied result }
+    ensures fault { IsFault result }
+{
+    match first_failure(errors) {
         Some((file, error)) => folder.ending_for(file.name(), error),
         None => Ending::Fault(Refusal::Device),
     }
 }
 
-// The first file that failed, and why.
-fn first_failure<D: WorldDisk>(files: &mut FourFiles<Option<D>>) -> Option<(WorldFile, io::Error)>
-    ensures { IsTrue D.honest
-        → result ≡ first_failure (mapped (failure_there D.failure) files.old) }
+fn first_failure(errors: FourFiles<Option<io::Error>>) -> Option<(WorldFile, io::Error)>
+    ensures { result ≡ first_failure errors }
 {
-    if let Some(error) = failure_in(&mut files.image_a) {
-        return Some((WorldFile::ImageA, error));
+    match (errors.image_a, errors.image_b, errors.log_a, errors.log_b) {
+        (Some(error), _, _, _) => Some((WorldFile::ImageA, error)),
+        (_, Some(error), _, _) => Some((WorldFile::ImageB, error)),
+        (_, _, Some(error), _) => Some((WorldFile::LogA, error)),
+        (_, _, _, Some(error)) => Some((WorldFile::LogB, error)),
+        _ => None,
     }
-    if let Some(error) = failure_in(&mut files.image_b) {
-        return Some((WorldFile::ImageB, error));
-    }
-    if let Some(error) = failure_in(&mut files.log_a) {
-        return Some((WorldFile::LogA, error));
-    }
-    let error = failure_in(&mut files.log_b)?;
-    Some((WorldFile::LogB, error))
 }
 
-fn failure_in<D: WorldDisk>(file: &mut Option<D>) -> Option<io::Error>
-    ensures { IsTrue D.honest → result ≡ failure_there D.failure file.old }
+fn failure_in<D: WorldDisk>(file: &Option<D>) -> Option<io::Error>
+    ensures { IsTrue D.honest → result ≡ failure_there D.failure file.now }
 {
     match file {
-        Some(disk) => disk.take_failure(),
+        Some(disk) => disk.last_failure(),
         None => None,
     }
 }

@@ -7,7 +7,7 @@ ghost use Rattle.world_folder.specs.History.{AreInTurn};
 ghost use Rattle.world_folder.specs.ReadIn.{IsFileRead, IsReadIn};
 
 use crate::ending::Ending;
-use crate::folders::{Folder, Reading, WorldDisk};
+use crate::folders::{Reading, Source, WorldDisk};
 use crate::system_error::error_of;
 use disk_model::{Disk, FourFiles, IMAGE_A, IMAGE_B, LOG_A, LOG_B, WorldFile};
 use file_readers::{read_image_file, read_segment_file};
@@ -17,7 +17,7 @@ use world_actions::Refusal;
 
 /// The bytes of each file of a folder that its format reads, or why it can't be read. Each is
 /// opened for reading only, and nothing is locked.
-pub fn read_folder<F: Folder>(folder: &mut F) -> FourFiles<io::Result<Vec<u8>>>
+pub fn read_folder<F: Source>(folder: &mut F) -> FourFiles<io::Result<Vec<u8>>>
     ensures { IsTrue F.honest → IsTrue F.File.honest
         → AreInTurn IsReadIn result (F.history folder.old) (F.history folder.new) }
 {
@@ -31,13 +31,12 @@ pub fn read_folder<F: Folder>(folder: &mut F) -> FourFiles<io::Result<Vec<u8>>>
 
 /// The bytes of a file of a folder that its format reads, or why it can't be read. It is opened for
 /// reading only, and synced before.
-pub fn read_file<F: Folder>(folder: &mut F, file: WorldFile) -> io::Result<Vec<u8>>
+pub fn read_file<F: Source>(folder: &mut F, file: WorldFile) -> io::Result<Vec<u8>>
     ensures { IsTrue F.honest → IsTrue F.File.honest
         → IsReadIn file result (F.history folder.old) (F.history folder.new) }
 {
-    let mut disk = folder.open_to_read(file, Reading::Synced)?;
-    let bytes = read_whole(folder.alloc(), file, &mut disk);
-    explain(&mut disk, bytes)
+    let mut opened = folder.open_to_read(file, Reading::Synced)?;
+    opened.read_whole(folder.alloc(), file)
 }
 
 /// The bytes of a file that its format reads.
@@ -62,7 +61,7 @@ pub fn explain<D: WorldDisk, T>(disk: &mut D, answer: Result<T, Refusal>) -> io:
 {
     match answer {
         Ok(value) => Ok(value),
-        Err(refusal) => match disk.take_failure() {
+        Err(refusal) => match disk.last_failure() {
             Some(error) => Err(error),
             None => Err(error_of(refusal)),
         },
@@ -70,7 +69,7 @@ pub fn explain<D: WorldDisk, T>(disk: &mut D, answer: Result<T, Refusal>) -> io:
 }
 
 /// The bytes of all files if each was read, else how the program ends for the first that wasn't.
-pub fn all_read<F: Folder>(
+pub fn all_read<F: Source>(
     folder: &F,
     read: FourFiles<io::Result<Vec<u8>>>,
 ) -> Result<FourFiles<Vec<u8>>, Ending>

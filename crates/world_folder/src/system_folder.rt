@@ -5,14 +5,14 @@ ghost use Rattle.world_folder.specs.OwnFile.{no_entry, no_identity};
 
 use crate::ending::Ending;
 use crate::entry::Entry;
-use crate::folders::{Folder, Reading};
+use crate::folders::{Folder, Reading, Source};
 use crate::guard::Guard;
 use crate::guard_file::{self, remove_guard};
-use crate::locks::{self, LockState};
 use crate::opening::{ABOVE, path_of};
 use crate::own_file::NOT_REGULAR;
+use crate::source_file::SourceFile;
 use disk_model::WorldFile;
-use file_disk::FileDisk;
+use file_disk::{FileDisk, LockState, lock, lock_state};
 use std::alloc::Global;
 use std::fmt::Display;
 use std::fs::{self, File, Files, OpenOptions};
@@ -55,9 +55,7 @@ impl<'a, R: Files<File = File> + AllocGlobal> SystemFolder<'a, R> {
     }
 }
 
-impl<R: Files<File = File> + Clock + Print + Eprint + AllocGlobal> Folder for SystemFolder<'_, R> {
-    type Handle = File;
-
+impl<R: Files<File = File> + Clock + Print + Eprint + AllocGlobal> Source for SystemFolder<'_, R> {
     type File = FileDisk;
 
     ghost honest = { false };
@@ -66,12 +64,6 @@ impl<R: Files<File = File> + Clock + Print + Eprint + AllocGlobal> Folder for Sy
 
     ghost history = { λ _. [] };
 
-    ghost entry_of = { λ _. no_entry };
-
-    ghost content_of = { λ _. [] };
-
-    ghost identity = { λ _. no_identity };
-
     fn alloc(&self) -> Global {
         self.rt.alloc()
     }
@@ -79,6 +71,61 @@ impl<R: Files<File = File> + Clock + Print + Eprint + AllocGlobal> Folder for Sy
     fn path(&self) -> &str {
         self.path
     }
+
+    fn open_to_read(&mut self, file: WorldFile, how: Reading) -> io::Result<SourceFile<FileDisk>> {
+        let opened = self.open_plain(file)?;
+        Ok(SourceFile::of(match how {
+            Reading::Cached => FileDisk::open_cached(opened)?,
+            Reading::Synced => FileDisk::open_to_read(opened)?,
+        }))
+    }
+
+    fn read_guard(&mut self) -> Result<Option<Guard>, Ending> {
+        guard_file::read_guard(self.rt, self.path)
+    }
+
+    fn guard_age(&self) -> Option<u64> {
+        guard_file::guard_age(self.rt, self.path)
+    }
+
+    fn length(&mut self, file: WorldFile) -> io::Result<u64> {
+        Ok(fs::metadata(self.rt, self.file_path(file)?.as_path())?.len())
+    }
+
+    fn lock_state(&mut self, file: WorldFile) -> io::Result<LockState> {
+        let opened = self.open_plain(file);
+        let state = opened.map(|file: _| lock_state(&file));
+        Ok(state.unwrap_or(LockState::Unknown))
+    }
+
+    fn own_lock_state(&mut self) -> io::Result<LockState> {
+        let opened = File::open(self.rt, self.path);
+        let state = opened.map(|folder: _| lock_state(&folder));
+        Ok(state.unwrap_or(LockState::Unknown))
+    }
+
+    fn print<T: Display + Drop>(&mut self, line: T) -> io::Result<()> {
+        self.rt.println(line)
+    }
+
+    fn warn<T: Display + Drop>(&mut self, line: T) -> io::Result<()> {
+        let _ = self.rt.eprintln(line);
+        Ok(())
+    }
+
+    fn pause(&self) {
+        thread::sleep(self.rt, Duration::from_millis(PAUSE_MILLISECONDS));
+    }
+}
+
+impl<R: Files<File = File> + Clock + Print + Eprint + AllocGlobal> Folder for SystemFolder<'_, R> {
+    type Handle = File;
+
+    ghost entry_of = { λ _. no_entry };
+
+    ghost content_of = { λ _. [] };
+
+    ghost identity = { λ _. no_identity };
 
     fn look(&mut self, file: WorldFile) -> io::Result<Option<Entry>> {
         match fs::symlink_metadata(self.rt, self.file_path(file)?.as_path()) {
@@ -107,32 +154,16 @@ impl<R: Files<File = File> + Clock + Print + Eprint + AllocGlobal> Folder for Sy
         fs::remove_file(self.rt, self.file_path(file)?.as_path())
     }
 
-    fn open_to_read(&mut self, file: WorldFile, how: Reading) -> io::Result<FileDisk> {
-        let opened = self.open_plain(file)?;
-        match how {
-            Reading::Cached => FileDisk::open_cached(opened),
-            Reading::Synced => FileDisk::open_to_read(opened),
-        }
-    }
-
     fn entry(&self, handle: &File) -> io::Result<Entry> {
         Ok(Entry::of(&handle.metadata()?))
     }
 
     fn lock(&mut self, handle: &File) -> io::Result<()> {
-        locks::lock(self.rt, handle)
+        lock(self.rt, handle)
     }
 
     fn take(&self, handle: File) -> io::Result<FileDisk> {
         FileDisk::open(handle)
-    }
-
-    fn read_guard(&mut self) -> Result<Option<Guard>, Ending> {
-        guard_file::read_guard(self.rt, self.path)
-    }
-
-    fn guard_age(&self) -> Option<u64> {
-        guard_file::guard_age(self.rt, self.path)
     }
 
     fn unguarded(&self) -> Result<(), Ending> {
@@ -165,15 +196,6 @@ impl<R: Files<File = File> + Clock + Print + Eprint + AllocGlobal> Folder for Sy
         }
     }
 
-    fn print<T: Display + Drop>(&mut self, line: T) -> io::Result<()> {
-        self.rt.println(line)
-    }
-
-    fn warn<T: Display + Drop>(&mut self, line: T) -> io::Result<()> {
-        let _ = self.rt.eprintln(line);
-        Ok(())
-    }
-
     fn is_empty(&mut self) -> io::Result<bool> {
         Ok(fs::read_dir(&self.rt, self.path)?.next().is_none())
     }
@@ -184,26 +206,6 @@ impl<R: Files<File = File> + Clock + Print + Eprint + AllocGlobal> Folder for Sy
             Ok(other) => Ok(own.as_str() != other.as_str() && own.starts_with(other.as_str())),
             Err(_) => Ok(false),
         }
-    }
-
-    fn length(&mut self, file: WorldFile) -> io::Result<u64> {
-        Ok(fs::metadata(self.rt, self.file_path(file)?.as_path())?.len())
-    }
-
-    fn lock_state(&mut self, file: WorldFile) -> io::Result<LockState> {
-        let opened = self.open_plain(file);
-        let state = opened.map(|file: _| locks::lock_state(&file));
-        Ok(state.unwrap_or(LockState::Unknown))
-    }
-
-    fn own_lock_state(&mut self) -> io::Result<LockState> {
-        let opened = File::open(self.rt, self.path);
-        let state = opened.map(|folder: _| locks::lock_state(&folder));
-        Ok(state.unwrap_or(LockState::Unknown))
-    }
-
-    fn pause(&self) {
-        thread::sleep(self.rt, Duration::from_millis(PAUSE_MILLISECONDS));
     }
 }
 

@@ -5,5 +5,5 @@ use Rattle.world_folder.proofs.opening.sync_names.Goals as goal
 
 pub returns-in-Err-clause-left : goal.returns-in-Err-clause-left
 returns-in-Err-clause-left g c = λ honest made leaves.
-    let synced : g.F.Folder.history c.sync_names-named.new.self ≡ NamesSynced ∷ g.F.Folder.history c.args.folder.now = search rules in
+    let synced : g.F.Source.history c.sync_names-named.new.self ≡ NamesSynced ∷ g.F.Source.history c.args.folder.now = search rules in
     subst (λ (acts : List Act). Leaves made acts) (sym (c.in-Err.ensures.failed honest ∙ synced)) leaves
