@@ -30,9 +30,7 @@ same_option eq same (Some x) None is = absurd cc
 same_place : (x y : Slot × ℕ) → (slot.ghosts.eq x.0 y.0 && (x.1 == y.1)) ≡ true → x ≡ y
 same_place x y is =
     let parts = both (slot.ghosts.eq x.0 y.0) (x.1 == y.1) is in
-    let file = same_slot x.0 y.0 parts.0 in
-    let tick = same_number x.1 y.1 parts.1 in
-    λ i. (file i, tick i)
+    λ i. (same_slot x.0 y.0 parts.0 i, same_number x.1 y.1 parts.1 i)
 
 pub alike : (x y : Summary)
     → (option_eq (λ (s t : Slot × ℕ). slot.ghosts.eq s.0 t.0 && (s.1 == t.1)) x.newest y.newest

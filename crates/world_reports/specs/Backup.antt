@@ -1,7 +1,6 @@
 -- A copy of a world in another folder.
 use Rattle.std.specs.Prelude.{◌≡◌, ℕ, nat_lt, if◌then◌else◌, List, [], ◌∷◌}
 use Rattle.std.specs.Prelude.{Option, Some, None}
-use Rattle.disk_model.specs.Disk.{Only}
 use Rattle.disk_model.specs.declared.disk.Disk.{Ghosts}
 use Rattle.disk_model.specs.declared.four_files.FourFiles.{FourFiles}
 use Rattle.file_format.specs.declared.gate.TheConstants.{CLOSED_GATE}
@@ -9,20 +8,16 @@ use Rattle.file_format.specs.declared.slot.Slot.{Slot}
 use Rattle.file_format.specs.declared.slot.Slot.TheVariants.{A, B}
 use Rattle.world_folder.specs.Ending.{ending_of}
 use Rattle.world_folder.specs.declared.ending.Ending.{Ending}
-use Rattle.world_folder.specs.declared.entry.Entry.{Entry}
 use Rattle.world_folder.specs.declared.found.WorldReport.{WorldReport}
 use Rattle.world_folder.specs.declared.guard.Guard.{Guard}
-use Rattle.disk_model.specs.declared.world_file.WorldFile.{WorldFile}
-use Rattle.disk_model.specs.declared.world_file.WorldFile.TheVariants.{ImageA, ImageB, LogA, LogB}
 use Rattle.world_folder.specs.Fault.{Files}
 use Rattle.world_folder.specs.declared.lost.Checks.{Checks}
-use Rattle.world_reports.specs.Looking.{IsWorldSeen}
+use Rattle.world_reports.specs.Copy.{IsVerified, IsWorldSeen}
+use Rattle.world_reports.specs.NewFiles.{AreWritten}
 use Rattle.world_reports.specs.Reports.{NamesFailed, with_finding}
-use Rattle.world_reports.specs.declared.looking.SeenWorld.{SeenWorld}
-use Rattle.world_folder.specs.History.{Act, Made, FoundEmpty, FoundOutside, GuardPut}
-use Rattle.world_folder.specs.History.{Printed, Warned, synced}
+use Rattle.world_reports.specs.declared.copy.SeenWorld.{SeenWorld}
+use Rattle.world_folder.specs.History.{Act, FoundEmpty, FoundOutside, GuardPut, Printed, Warned}
 use Rattle.world_reports.specs.Texts.{backed_up_text, begun_text}
-use Rattle.world_reports.specs.Verified.{IsVerified}
 
 -- it is named on standard error how often a copy was begun, if it was begun anew
 abbrev pub with_tries : (tries : ℕ) → List Act → List Act
@@ -48,36 +43,6 @@ IsWithoutOlder B files copied =
     × (copied.log_a ≡ files.log_a) × (copied.log_b ≡ files.log_b)
 
 module _ {D : Type 0} (disk : Ghosts D) where
-  -- a file was made under its name, and has these bytes, which are durable
-  pub record IsWritten (file : WorldFile) (bytes : List ℕ) (written : D)
-      (before after : List Act) : Type 0 where
-    pub entry : Entry
-    pub made : after ≡ Made file entry ∷ before
-    pub has : disk.content written ≡ bytes
-    pub durable : Only (disk.content written) (disk.may_leave written)
-
-  -- both images were written, the newest one last
-  abbrev pub AreImagesWritten : (newest : Slot) → Files → (image_a image_b : D)
-      → (before after : List Act) → Type 0
-  AreImagesWritten A files image_a image_b before after =
-      (acts : List Act) × IsWritten ImageB files.image_b.items image_b before acts
-      × IsWritten ImageA files.image_a.items image_a acts after
-  AreImagesWritten B files image_a image_b before after =
-      (acts : List Act) × IsWritten ImageA files.image_a.items image_a before acts
-      × IsWritten ImageB files.image_b.items image_b acts after
-
-  -- four files were written, the newest image last, and then their names and the folder's own
-  -- were made durable
-  pub record AreWritten (newest : Slot) (files : Files) (made : FourFiles D)
-      (before after : List Act) : Type 0 where
-    pub with_log_a : List Act
-    pub with_log_b : List Act
-    pub with_images : List Act
-    pub log_a : IsWritten LogA files.log_a.items made.log_a before with_log_a
-    pub log_b : IsWritten LogB files.log_b.items made.log_b with_log_a with_log_b
-    pub images : AreImagesWritten newest files made.image_a made.image_b with_log_b with_images
-    pub named : after ≡ synced with_images
-
   -- A copy of a world was made, and durable. Its files were read again, and hold the world that was
   -- read. Only then it was printed; a read that failed at first was named, and what is found of a
   -- loss. At last it got this guard. The command ends by what was found.
@@ -89,7 +54,7 @@ module _ {D : Type 0} (disk : Ghosts D) where
     pub verified : List Act
     pub named : List Act
     pub without_older : IsWithoutOlder world.found.world.slot world.files copied
-    pub are_written : AreWritten world.found.world.slot copied made before written
+    pub are_written : AreWritten disk world.found.world.slot copied made before written
     pub is_verified : IsVerified world.found.world reported written verified
     pub failed : NamesFailed world.failed verified named
     pub printed : List Act

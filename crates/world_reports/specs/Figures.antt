@@ -24,9 +24,9 @@ current_segment None None = None
 -- these are the figures of a world that was found in four files, and of the segment that the log
 -- continues in
 pub record AreFigures (files : Files) (found : Recovered) (figures : FiguresValue) : Type 0 where
-  pub tick : figures.tick ≡ found.tick
-  pub image : figures.image ≡ found.from
-  pub slot : figures.slot ≡ found.slot
+  pub tick : figures.found.world.tick ≡ found.tick
+  pub image : figures.found.world.from ≡ found.from
+  pub slot : figures.found.slot ≡ found.slot
   pub log_a : Option (ℕ × ℕ)
   pub log_b : Option (ℕ × ℕ)
   pub opened_a : IsOpened files.log_a.items log_a

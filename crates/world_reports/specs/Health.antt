@@ -10,10 +10,10 @@ use Rattle.world_reports.specs.declared.health.Health.TheVariants.{Well, Unguard
 use Rattle.world_reports.specs.declared.health.Health.TheVariants.{LogDown, Replaced, NotServed}
 use Rattle.world_reports.specs.declared.health.Health.TheVariants.{Unknown, Hangs}
 use Rattle.world_reports.specs.declared.health.TheConstants.{HANGS_AFTER_SECONDS}
-use Rattle.world_reports.specs.declared.served.PartReport.{PartReport}
-use Rattle.world_reports.specs.declared.served.PartReport.TheVariants as part
-use Rattle.world_reports.specs.declared.served.ServerReport.{ServerReport}
-use Rattle.world_reports.specs.declared.served.ServerReport.TheVariants as server
+use Rattle.world_reports.specs.declared.server_report.PartReport.{PartReport}
+use Rattle.world_reports.specs.declared.server_report.PartReport.TheVariants as part
+use Rattle.world_reports.specs.declared.server_report.ServerReport.{ServerReport}
+use Rattle.world_reports.specs.declared.server_report.ServerReport.TheVariants as server
 
 -- a world whose server runs on: so if its images are up
 abbrev pub images_health : PartReport → (up : Reported) → Reported

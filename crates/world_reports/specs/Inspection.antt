@@ -1,6 +1,6 @@
 -- The report on the files of a folder.
 use Rattle.std.specs.Prelude.{◌≡◌, ℕ, Bool, true, false, List, [], ◌∷◌, ◌++◌, codes, decimal}
-use Rattle.std.specs.Prelude.{length, Option, Some, None, Result, Ok, Err, Vec}
+use Rattle.std.specs.Prelude.{Option, Some, None, Result, Ok, Err, Vec}
 use Rattle.std.specs.List.{flat_map}
 use Rattle.std.specs.declared.alloc.Global.{Global}
 use Rattle.std.specs.declared.io.Error.{Error}
@@ -11,16 +11,16 @@ use Rattle.world_folder.specs.declared.ending.Ending.{Ending}
 use Rattle.world_folder.specs.declared.lost.Finding.{Finding}
 use Rattle.world_folder.specs.declared.lost.Checks.{Checks}
 use Rattle.world_folder.specs.History.{Act, Printed, IsPrinted, AreInTurn}
-use Rattle.world_reports.specs.Looking.{IsSeen, length_or}
+use Rattle.world_reports.specs.Copy.{IsSeen}
 use Rattle.world_reports.specs.Reports.{NamesFailed, with_finding}
 use Rattle.world_folder.specs.Texts.{recovered_text}
 use Rattle.world_reports.specs.Texts.{reported_text, counted_text}
 use Rattle.world_reports.specs.FileReports.{IsImageReport, IsLogReport}
 use Rattle.disk_model.specs.FourFiles.{name_of}
 use Rattle.disk_model.specs.declared.four_files.FourFiles.{FourFiles}
-use Rattle.world_reports.specs.declared.inspecting.FileLine.{FileLine}
+use Rattle.world_reports.specs.declared.inspection.FileLine.{FileLine}
 use Rattle.world_reports.specs.declared.file_reports.FileReport.{FileReport}
-use Rattle.world_reports.specs.declared.looking.Seen.{Seen}
+use Rattle.world_reports.specs.declared.copy.Seen.{Seen}
 use Rattle.disk_model.specs.declared.world_file.WorldFile.{WorldFile}
 use Rattle.disk_model.specs.declared.world_file.WorldFile.TheVariants.{ImageA, ImageB, LogA, LogB}
 
@@ -42,11 +42,11 @@ IsFileReport LogA bytes reported = IsLogReport bytes reported
 IsFileReport LogB bytes reported = IsLogReport bytes reported
 
 -- the line on a file that was read so: how its bytes read, or why it can't be read
-abbrev pub IsLineOf : WorldFile → Result (Vec ℕ Global) Error → Option ℕ → FileLine → Type 0
-IsLineOf file (Ok bytes) known line =
+abbrev pub IsLineOf : WorldFile → Result (Vec ℕ Global) Error → (length : ℕ) → FileLine → Type 0
+IsLineOf file (Ok bytes) length line =
     (line.file ≡ file) × (reported : FileReport) × (line.reported ≡ Ok reported)
-    × IsFileReport file bytes.items reported × (line.length ≡ length_or known bytes.items)
-IsLineOf file (Err error) known line = (line.file ≡ file) × (line.reported ≡ Err error)
+    × IsFileReport file bytes.items reported × (line.length ≡ length)
+IsLineOf file (Err error) length line = (line.file ≡ file) × (line.reported ≡ Err error)
 
 -- the line on each file was printed, image.a first
 pub record AreFilesReported (seen : Seen) (before after : List Act) : Type 0 where

@@ -1,19 +1,16 @@
 pub mod FileReports
 pub mod Texts
-pub mod Copying
+pub mod Copy
 pub mod Figures
-pub mod Salvaging
-pub mod Dropped
+pub mod SalvagedWorld
+pub mod DroppedFiles
 pub mod TwoTries
-pub mod Served
+pub mod ServerReport
 pub mod Backup
-pub mod Looking
+pub mod NewFiles
 pub mod Reports
 pub mod StatusReport
 pub mod Inspection
-pub mod Verified
 -- inside: for private functions only
-pub mod TakingBack
-pub mod Looks
-pub mod Tried
+pub mod Attempt
 pub mod Health

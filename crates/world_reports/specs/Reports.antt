@@ -8,8 +8,8 @@ use Rattle.world_folder.specs.declared.lost.Finding.{Finding}
 use Rattle.world_folder.specs.declared.lost.Checks.{Checks}
 use Rattle.world_folder.specs.declared.lost.OnLoss.{OnLoss}
 use Rattle.world_folder.specs.declared.lost.OnLoss.TheVariants.{Warn}
-use Rattle.world_reports.specs.Looking.{IsWorldSeen}
-use Rattle.world_reports.specs.declared.looking.SeenWorld.{SeenWorld}
+use Rattle.world_reports.specs.Copy.{IsWorldSeen}
+use Rattle.world_reports.specs.declared.copy.SeenWorld.{SeenWorld}
 
 -- The guard of a world was read, and then a command used its files by these checks. They don't
 -- refuse a world that is older than its guard.

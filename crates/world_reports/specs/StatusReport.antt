@@ -6,13 +6,13 @@ use Rattle.world_folder.specs.declared.ending.Ending.{Ending}
 use Rattle.world_folder.specs.declared.guard.Guard.{Guard}
 use Rattle.world_folder.specs.declared.lost.Checks.{Checks}
 use Rattle.world_reports.specs.Figures.{AreFigures}
-use Rattle.world_reports.specs.Looking.{IsWorldSeen}
+use Rattle.world_reports.specs.Copy.{IsWorldSeen}
 use Rattle.world_reports.specs.Reports.{NamesFailed, with_finding}
-use Rattle.world_reports.specs.Served.{IsServerReport}
+use Rattle.world_reports.specs.ServerReport.{IsServerReport}
 use Rattle.world_reports.specs.Texts.{figures_text, guard_text, lengths_text, server_text}
 use Rattle.world_reports.specs.declared.figures.Figures.{Figures as FiguresValue}
-use Rattle.world_reports.specs.declared.looking.SeenWorld.{SeenWorld}
-use Rattle.world_reports.specs.declared.served.ServerReport.{ServerReport}
+use Rattle.world_reports.specs.declared.copy.SeenWorld.{SeenWorld}
+use Rattle.world_reports.specs.declared.server_report.ServerReport.{ServerReport}
 
 -- after these acts the guard of the world was printed, if it has one
 abbrev pub with_guard : Option Guard → List Act → List Act

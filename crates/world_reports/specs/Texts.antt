@@ -7,10 +7,10 @@ use Rattle.action_log.specs.declared.format.TheConstants.{SEGMENT_TICKS}
 use Rattle.world_reports.specs.declared.file_reports.FileReport.{FileReport}
 use Rattle.world_reports.specs.declared.file_reports.FileReport.TheVariants as report
 use Rattle.world_reports.specs.declared.figures.Figures.{Figures as FiguresValue}
-use Rattle.world_reports.specs.declared.served.PartReport.{PartReport}
-use Rattle.world_reports.specs.declared.served.PartReport.TheVariants as part
-use Rattle.world_reports.specs.declared.served.ServerReport.{ServerReport}
-use Rattle.world_reports.specs.declared.served.ServerReport.TheVariants as server
+use Rattle.world_reports.specs.declared.server_report.PartReport.{PartReport}
+use Rattle.world_reports.specs.declared.server_report.PartReport.TheVariants as part
+use Rattle.world_reports.specs.declared.server_report.ServerReport.{ServerReport}
+use Rattle.world_reports.specs.declared.server_report.ServerReport.TheVariants as server
 use Rattle.world_folder.specs.declared.guard.Guard.{Guard}
 use Rattle.disk_model.specs.declared.world_file.TheConstants.{IMAGE_A, IMAGE_B, LOG_A, LOG_B}
 use Rattle.world_reports.specs.FileReports.{format_number}
@@ -67,8 +67,10 @@ segment_text (Some (slot, ticks)) =
 segment_text None = codes "no segment is open"
 
 abbrev pub figures_text : FiguresValue → List ℕ
-figures_text figures = recovered_text figures.tick figures.image figures.slot
-    ++ codes "\nlog: " ++ counted_text (figures.tick - figures.image) (codes "tick")
+figures_text figures =
+    let world = figures.found.world in
+    recovered_text world.tick world.from figures.found.slot
+    ++ codes "\nlog: " ++ counted_text (world.tick - world.from) (codes "tick")
     ++ codes " after the image, " ++ segment_text figures.segment
 
 -- how many bytes four files have together, as far as a number of 64 bits goes

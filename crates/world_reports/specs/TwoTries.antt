@@ -1,5 +1,6 @@
 -- Files of a damaged world, each of which is read again if it looks lost.
-use Rattle.std.specs.Prelude.{◌≡◌, ◌⊎◌, ℕ, List, Option, Some, None, pos, Result, Ok, Err, Vec}
+use Rattle.std.specs.Prelude.{◌≡◌, ◌⊎◌, ℕ, List, Option, Some, None, pos, Result, Err, Vec}
+use Rattle.std.specs.Prelude.{IfErr}
 use Rattle.std.specs.IoError.{error_kind, raw_os_error}
 use Rattle.std.specs.declared.alloc.Global.{Global}
 use Rattle.std.specs.declared.io.Error.{Error}
@@ -14,23 +15,15 @@ use Rattle.world_reports.specs.declared.two_tries.TwoTries.{TwoTries}
 abbrev pub IsLost : Error → Type 0
 IsLost error = (error_kind error ≡ NotFound) ⊎ (raw_os_error error ≡ Some (pos 5))
 
--- A first try to read a file failed with this error. If the file looked lost, it was read once more
--- by its own name, and that answer counts. Else the first one does.
-abbrev pub IsTriedAgain : (file : WorldFile) → Error → (failed : Option Error)
-    → Result (Vec ℕ Global) Error → (before after : List Act) → Type 0
-IsTriedAgain file error None value before after =
-    (¬ IsLost error) × (value ≡ Err error) × (after ≡ before)
-IsTriedAgain file error (Some failed) value before after =
-    IsLost error × (failed ≡ error) × IsReadIn file value before after
-
--- a file was read by its own name, and tried again if that failed
+-- A file was read by its own name. If that failed, and the file looked lost, it was read once more,
+-- and that answer counts.
 abbrev pub IsTried : (file : WorldFile) → (failed : Option Error) → Result (Vec ℕ Global) Error
     → (before after : List Act) → Type 0
-IsTried file failed value before after =
-    ((bytes : Vec ℕ Global) × (failed ≡ None) × (value ≡ Ok bytes)
-    × IsReadIn file (Ok bytes) before after)
-    ⊎ ((error : Error) × (between : List Act) × IsReadIn file (Err error) before between
-    × IsTriedAgain file error failed value between after)
+IsTried file None value before after =
+    IsReadIn file value before after × IfErr value (λ error. ¬ IsLost error)
+IsTried file (Some error) value before after =
+    (between : List Act) × IsReadIn file (Err error) before between × IsLost error
+    × IsReadIn file value between after
 
 -- each file of four was read by its own name
 abbrev pub AreTried : FourFiles TwoTries → (before after : List Act) → Type 0

@@ -7,28 +7,22 @@ ghost use Rattle.world_reports.specs.Figures.{AreFigures, IsOpened, current_segm
 ghost use Rattle.world_reports.specs.Texts.{figures_text, lengths_text, pair_text, segment_text};
 ghost use Rattle.world_reports.specs.Texts.{guard_text, total_of};
 
-use crate::counted::Counted;
+use crate::copy::look_for_world;
+use crate::count::Counted;
 use crate::health::{health_of, report_health};
-use crate::looking::look_for_world;
-use crate::recovering::{warn_of, warn_of_failed};
-use crate::served::{ServerReport, server_in};
+use crate::server_report::{ServerReport, server_in};
+use crate::warnings::{warn_of, warn_of_failed};
 use action_log::{SEGMENT_TICKS, judge_log};
 use disk_model::{FourFiles, IMAGE_A, IMAGE_B, LOG_A, LOG_B};
 use recovery::{Recovered, Slot};
 use std::fmt;
 use world_actions::Refusal;
-use world_folder::{
-    Checks, Ending, Folder, FoundReport, Guard, OnLoss, Reading, WorldReport, checks_in,
-};
+use world_folder::{Checks, Ending, FoundReport, Guard, OnLoss, Reading, Source, checks_in};
 
 /// Figures of a world.
 #[derive(Clone, Copy, Debug, PartialEq, Eq)]
 pub struct Figures {
-    /// The tick up to which the files hold it.
-    pub tick: u64,
-    /// The tick of its newest image, and that one's file.
-    pub image: u64,
-    pub slot: Slot,
+    pub found: FoundReport,
     /// The segment that the next ticks are written to, and how many it has.
     pub segment: Option<(Slot, usize)>,
 }
@@ -38,9 +32,7 @@ pub fn figures_of(found: &Recovered, files: &FourFiles<Vec<u8>>) -> Figures
     ensures { AreFigures files.now found.now result }
 {
     Figures {
-        tick: found.tick,
-        image: found.from,
-        slot: found.slot,
+        found: FoundReport::of(found),
         segment: current_segment(opened_segment(&files.log_a), opened_segment(&files.log_b)),
     }
 }
@@ -73,7 +65,7 @@ fn opened_segment(bytes: &[u8]) -> Option<(u64, usize)>
 
 /// Prints the figures of the world in a folder, as `report_status` does. If it also checks the
 /// world, it prints whether the world is well, and ends by that.
-pub fn status<F: Folder>(
+pub fn status<F: Source>(
     folder: &mut F,
     on_loss: OnLoss,
     checks_health: bool,
@@ -101,7 +93,7 @@ pub fn status<F: Folder>(
 /// Prints the figures of the world in a folder, which a server may write meanwhile, and then
 /// whether one does. On standard error it names what was lost. If the files hold no world, only the
 /// last line is printed. It returns how the command ends, and what is known of the server.
-pub fn report_status<F: Folder>(
+pub fn report_status<F: Source>(
     folder: &mut F,
     checks: Checks,
 ) -> Result<(Ending, ServerReport), Ending>
@@ -116,7 +108,7 @@ pub fn report_status<F: Folder>(
     Ok((printed?, server))
 }
 
-fn print_server<F: Folder>(folder: &mut F) -> Result<ServerReport, Ending>
+fn print_server<F: Source>(folder: &mut F) -> Result<ServerReport, Ending>
     ensures reported { IsTrue F.honest → IfOk result (λ server.
         IsServerReported server (F.history folder.old) (F.history folder.new)) }
     ensures fault { IfErr result IsFault }
@@ -126,7 +118,7 @@ fn print_server<F: Folder>(folder: &mut F) -> Result<ServerReport, Ending>
     Ok(reported)
 }
 
-fn print_figures<F: Folder>(folder: &mut F, checks: Checks) -> Result<Ending, Ending>
+fn print_figures<F: Source>(folder: &mut F, checks: Checks) -> Result<Ending, Ending>
     ensures reported { IsTrue F.honest → IsTrue F.File.honest → IfOk result (λ ending.
         AreFiguresReported checks ending (F.history folder.old) (F.history folder.new)) }
     ensures done { IfOk result IsDone }
@@ -142,7 +134,7 @@ fn print_figures<F: Folder>(folder: &mut F, checks: Checks) -> Result<Ending, En
 }
 
 // Prints the guard of the world, if it has one.
-fn print_guard<F: Folder>(folder: &mut F, guard: Option<Guard>) -> Result<(), Ending>
+fn print_guard<F: Source>(folder: &mut F, guard: Option<Guard>) -> Result<(), Ending>
     ensures printed { IsTrue F.honest
         → OnOk result (F.history folder.new ≡ with_guard guard (F.history folder.old)) }
     ensures fault { IfErr result IsFault }
@@ -161,18 +153,10 @@ impl fmt::Display for GuardLine {
     ghost output = { λ line. Some (guard_text line.0) };
 
     fn fmt<W: fmt::Write>(&self, f: &mut fmt::Formatter<W>) -> fmt::Result {
-        let Guard {
-            world,
-            starts,
-            acked,
-            image,
-            seconds,
-        } = self.0;
-        write!(
-            f,
-            "guard: tick {acked} at @{seconds}, image of tick {image}"
-        )?;
-        write!(f, ", start {starts} of world {world}")
+        let guard = &self.0;
+        write!(f, "guard: tick {} at @{}", guard.acked, guard.seconds)?;
+        write!(f, ", image of tick {}", guard.image)?;
+        write!(f, ", start {} of world {}", guard.starts, guard.world)
     }
 }
 
@@ -180,17 +164,9 @@ impl fmt::Display for Figures {
     ghost output = { λ figures. Some (figures_text figures) };
 
     fn fmt<W: fmt::Write>(&self, f: &mut fmt::Formatter<W>) -> fmt::Result {
-        let found = FoundReport {
-            world: WorldReport {
-                tick: self.tick,
-                from: self.image,
-            },
-            slot: self.slot,
-        };
-        let replayed = Counted {
-            count: self.tick.saturating_sub(self.image) as usize,
-            noun: "tick",
-        };
+        let found = self.found;
+        let replayed = found.world.tick.saturating_sub(found.world.from) as usize;
+        let replayed = Counted(replayed, "tick");
         let segment = SegmentReport(self.segment);
         write!(f, "{found}\nlog: {replayed} after the image, {segment}")
     }
@@ -233,14 +209,8 @@ impl fmt::Display for Lengths {
     ghost output = { λ lengths. Some (lengths_text lengths.0) };
 
     fn fmt<W: fmt::Write>(&self, f: &mut fmt::Formatter<W>) -> fmt::Result {
-        let images = PairLengths {
-            a: (IMAGE_A, self.0.image_a),
-            b: (IMAGE_B, self.0.image_b),
-        };
-        let logs = PairLengths {
-            a: (LOG_A, self.0.log_a),
-            b: (LOG_B, self.0.log_b),
-        };
+        let images = PairLengths(IMAGE_A, self.0.image_a, IMAGE_B, self.0.image_b);
+        let logs = PairLengths(LOG_A, self.0.log_a, LOG_B, self.0.log_b);
         let total = self.total();
         write!(f, "bytes: {images}, {logs}, together {total}")
     }
@@ -248,15 +218,12 @@ impl fmt::Display for Lengths {
 
 // How many bytes each of two files has, with their names.
 #[derive(Clone, Copy)]
-struct PairLengths {
-    a: (&'static str, u64),
-    b: (&'static str, u64),
-}
+struct PairLengths(&'static str, u64, &'static str, u64);
 
 impl fmt::Display for PairLengths {
-    ghost output = { λ pair. Some (pair_text pair.a.0.now pair.a.1 pair.b.0.now pair.b.1) };
+    ghost output = { λ pair. Some (pair_text pair.0.now pair.1 pair.2.now pair.3) };
 
     fn fmt<W: fmt::Write>(&self, f: &mut fmt::Formatter<W>) -> fmt::Result {
-        write!(f, "{} {}, {} {}", self.a.0, self.a.1, self.b.0, self.b.1)
+        write!(f, "{} {}, {} {}", self.0, self.1, self.2, self.3)
     }
 }

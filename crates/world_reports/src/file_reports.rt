@@ -1,14 +1,14 @@
-ghost use Rattle.std.specs.Prelude.{◌≡◌, Err, IfOk, IfErr, Some};
+ghost use Rattle.std.specs.Prelude.{◌≡◌, IfOk, OnErr, Some};
 ghost use Rattle.image_files.specs.Image.{image_of};
 ghost use Rattle.image_files.specs.Reading.{IsOpenImage};
 ghost use Rattle.world_reports.specs.FileReports.{IsImageReport, IsLogReport, format_number};
 ghost use Rattle.world_reports.specs.Texts.{reported_text};
 
-use crate::counted::Counted;
+use crate::count::Counted;
 use action_log::judge_log;
 use file_format::{Format, format_of};
 use image_files::{ImageState, read_image};
-use std::alloc::Global;
+use std::alloc::{AllocError, Global};
 use std::fmt;
 use world_actions::Refusal;
 
@@ -34,10 +34,9 @@ pub enum FileReport {
 }
 
 /// Reports on an image file. It takes memory as `read_image` does.
-pub fn report_image(alloc: Global, bytes: &[u8]) -> Result<FileReport, Refusal>
+pub fn report_image(alloc: Global, bytes: &[u8]) -> Result<FileReport, AllocError>
     ensures reported { IfOk result (IsImageReport bytes.now) }
-    ensures refused { IfErr result (λ refusal. refusal ≡ Refusal.NoMemory) }
-    ensures memory { result ≡ Err Refusal.NoMemory → IsOpenImage (image_of bytes.now) }
+    ensures memory { OnErr result (IsOpenImage (image_of bytes.now)) }
 {
     match read_image(alloc, bytes) {
         Ok(ImageState::Closed) => Ok(FileReport::Closed),
@@ -47,7 +46,7 @@ pub fn report_image(alloc: Global, bytes: &[u8]) -> Result<FileReport, Refusal>
             tick,
         }),
         Err(Refusal::BadImage) => Ok(FileReport::Damaged),
-        Err(refusal) => Err(refusal),
+        Err(_) => Err(AllocError),
     }
 }
 
@@ -90,10 +89,7 @@ impl fmt::Display for FileReport {
                 tick,
             } => {
                 let format = number_of(*format);
-                let cells = Counted {
-                    count: *cells,
-                    noun: "cell",
-                };
+                let cells = Counted(*cells, "cell");
                 write!(f, "open, format {format}, {cells}, tick {tick}")
             }
             FileReport::Log {
@@ -103,14 +99,8 @@ impl fmt::Display for FileReport {
                 ticks,
             } => {
                 let format = number_of(*format);
-                let groups = Counted {
-                    count: *groups,
-                    noun: "group",
-                };
-                let ticks = Counted {
-                    count: *ticks,
-                    noun: "tick",
-                };
+                let groups = Counted(*groups, "group");
+                let ticks = Counted(*ticks, "tick");
                 write!(f, "open, format {format}, base {base}, {groups}, {ticks}")
             }
         }

@@ -5,9 +5,9 @@ ghost use Rattle.world_folder.specs.History.{Printed};
 ghost use Rattle.world_reports.specs.Health.{health_ending, health_of, health_text, images_health};
 ghost use Rattle.world_reports.specs.Health.{ending_with, health_of_up};
 
-use crate::served::{PartReport, ServerReport};
+use crate::server_report::{PartReport, ServerReport};
 use std::fmt;
-use world_folder::{Ending, Folder, Unwell};
+use world_folder::{Ending, Source, Unwell};
 
 /// After how many seconds without a sign of life a server counts as one that hangs. One that is
 /// well gives one each second.
@@ -71,7 +71,7 @@ fn images_health(images: PartReport, up: Health) -> Health
 
 /// Prints how a world is, and returns how a command ends that checked it, and would have ended so
 /// without that.
-pub fn report_health<F: Folder>(
+pub fn report_health<F: Source>(
     folder: &mut F,
     health: Health,
     ending: Ending,

@@ -6,26 +6,24 @@
 //! server writes counts only if their heads are alike before it and after it.
 #![tactic(auto)]
 
-mod backing_up;
-mod copying;
-mod counted;
-mod dropped;
+mod backup;
+mod copy;
+mod count;
+mod dropped_files;
 mod figures;
 mod file_reports;
 mod health;
-mod inspecting;
-mod looking;
-mod looks;
-mod recovering;
-mod salvaging;
-mod served;
-mod taking_back;
+mod inspection;
+mod new_files;
+mod recovered_world;
+mod salvaged_world;
+mod server_report;
 mod two_tries;
-mod verified;
+mod warnings;
 
-pub use backing_up::back_up;
+pub use backup::back_up;
 pub use figures::{Figures, report_status, status};
-pub use inspecting::inspect;
-pub use recovering::recover;
-pub use salvaging::salvage_world;
-pub use served::{PartReport, ServerReport};
+pub use inspection::inspect;
+pub use recovered_world::recover;
+pub use salvaged_world::salvage_world;
+pub use server_report::{PartReport, ServerReport};

@@ -1,10 +1,10 @@
 //! A file of a damaged world, which is read again if it looks lost.
 ghost use Rattle.std.specs.Prelude.{◌≡◌, ◌↔◌, IsTrue};
-ghost use Rattle.world_reports.specs.TwoTries.{IsLost, IsTried, IsTriedAgain, AreTried};
+ghost use Rattle.world_reports.specs.TwoTries.{IsLost, IsTried, AreTried};
 
 use disk_model::{FourFiles, WorldFile};
 use std::io::{self, ErrorKind};
-use world_folder::{Folder, read_file};
+use world_folder::{Source, read_file};
 
 /// The result of reading a file, at one try or two.
 #[derive(Drop)]
@@ -17,7 +17,7 @@ pub struct TwoTries {
 
 impl TwoTries {
     ghost use Rattle.std.specs.Prelude.{◌≡◌};
-    ghost use Rattle.world_reports.specs.Salvaging.{failed_once};
+    ghost use Rattle.world_reports.specs.SalvagedWorld.{failed_once};
 
     /// The error of the first try, if the second one succeeded.
     pub fn failed_once(&self) -> Option<io::Error>
@@ -32,7 +32,7 @@ impl TwoTries {
 }
 
 /// Reads each file of a folder, as `read_folder` does. One that looks lost is read once more.
-pub fn try_folder<F: Folder>(folder: &mut F) -> FourFiles<TwoTries>
+pub fn try_folder<F: Source>(folder: &mut F) -> FourFiles<TwoTries>
     ensures { IsTrue F.honest → IsTrue F.File.honest
         → AreTried result (F.history folder.old) (F.history folder.new) }
 {
@@ -44,35 +44,19 @@ pub fn try_folder<F: Folder>(folder: &mut F) -> FourFiles<TwoTries>
     }
 }
 
-fn try_file<F: Folder>(folder: &mut F, file: WorldFile) -> TwoTries
+fn try_file<F: Source>(folder: &mut F, file: WorldFile) -> TwoTries
     ensures { IsTrue F.honest → IsTrue F.File.honest → IsTried file result.failed result.value
         (F.history folder.old) (F.history folder.new) }
 {
     match read_file(folder, file) {
-        Ok(bytes) => TwoTries {
-            failed: None,
-            value: Ok(bytes),
-        },
-        Err(error) => try_again(folder, file, error),
-    }
-}
-
-// Reads a file again whose first try failed so, if it looks lost.
-fn try_again<F: Folder>(folder: &mut F, file: WorldFile, error: io::Error) -> TwoTries
-    ensures { IsTrue F.honest → IsTrue F.File.honest
-        → IsTriedAgain file error result.failed result.value (F.history folder.old)
-        (F.history folder.new) }
-{
-    if is_lost(&error) {
-        TwoTries {
+        Err(error) if is_lost(&error) => TwoTries {
             failed: Some(error),
             value: read_file(folder, file),
-        }
-    } else {
-        TwoTries {
+        },
+        value => TwoTries {
             failed: None,
-            value: Err(error),
-        }
+            value,
+        },
     }
 }
 

@@ -4,8 +4,8 @@ pub returns-clause-reported : goal.returns-clause-reported
 returns-clause-reported g c = λ honest honest_files. record {
   world = c.in_ok-seen.seen;
   figures = c.figures_of.result;
-  looked = g.F.Folder.history c.look_for_world.new.folder;
-  acts = g.F.Folder.history c.warn_of_failed.new.folder;
+  looked = g.F.Source.history c.look_for_world.new.folder;
+  acts = g.F.Source.history c.warn_of_failed.new.folder;
   is_seen = c.in_ok-seen.ensures.seen honest honest_files;
   failed = c.in_ok-warn_of_failed.ensures honest;
   are_figures = c.figures_of.ensures;
