@@ -40,7 +40,7 @@ fn play<R: Input + Print + Eprint + Clock + Files<File = File> + AllocGlobal + C
     let files = open_files(&mut folder)?;
     let mut world = match SerialWorld::<PlainCopy, FileDisk>::open(rt.alloc(), files, EVERY) {
         Ok(world) => world,
-        Err((files, Refusal::Device)) => return Err(failure_of(&folder, files)),
+        Err((files, Refusal::Device)) => return Err(failure_of(&folder, &files)),
         Err((_, refusal)) => return Err(Ending::Fault(refusal)),
     };
     let (mut input, mut output) = (rt.reader(), io::writer(rt));

@@ -4,9 +4,7 @@ use crate::{ModelFolder, Note};
 use disk_model::FourFiles;
 use std::alloc::Global;
 use std::process::Abort;
-use world_folder::{
-    Checks, Ending, Folder, Guard, Listed, OnLoss, create_listed, create_zeros, stands_in,
-};
+use world_folder::{Checks, Ending, FirstWords, Folder, Guard, Listed, OnLoss, create, stands_in};
 use world_reports::{back_up, recover, salvage_world, status};
 
 fn no_bytes(alloc: Global) -> FourFiles<Vec<u8>> {
@@ -18,7 +16,8 @@ fn no_bytes(alloc: Global) -> FourFiles<Vec<u8>> {
     }
 }
 
-fn each(there: bool) -> FourFiles<bool> {
+/// The same answer for each file.
+pub fn each(there: bool) -> FourFiles<bool> {
     FourFiles {
         image_a: there,
         image_b: there,
@@ -27,12 +26,14 @@ fn each(there: bool) -> FourFiles<bool> {
     }
 }
 
-// The bytes of the files of a new world of two cells.
-fn world_bytes(rt: &impl Abort, alloc: Global) -> FourFiles<Vec<u8>> {
+/// The bytes of the files of a new world of two cells.
+pub fn world_bytes(rt: &impl Abort, alloc: Global) -> FourFiles<Vec<u8>> {
     let listed = Listed::read(alloc, b"5\n7\n", None).expect(rt, "two words");
     let mut folder = ModelFolder::new(alloc, "D", no_bytes(alloc), each(false));
-    let made = create_listed(&mut folder, &listed);
-    let (mut files, made) = made.expect(rt, "a world");
+    let (mut files, made) = match create(&mut folder, FirstWords::Listed(listed.words())) {
+        Ok(made) => made,
+        Err(_) => panic!(rt; "no world"),
+    };
     same(rt, "cells", made.cells(), 2);
     is_last(rt, &folder, "created 2");
     files.read_all(alloc).expect(rt, "its bytes")
@@ -69,7 +70,7 @@ fn count_made(folder: &ModelFolder<'_>) -> usize {
 fn a_new_world_of_zeros_has_four_files(rt: HostRuntime) {
     let alloc = rt.alloc();
     let mut folder = ModelFolder::new(alloc, "D", no_bytes(alloc), each(false));
-    let made = create_zeros(&mut folder, 3);
+    let made = create(&mut folder, FirstWords::Zeros(3));
     assert!(rt; made.is_ok());
     drop(made);
     is_last(&rt, &folder, "created 3");
@@ -82,7 +83,7 @@ fn no_file_is_made_beside_an_image(rt: HostRuntime) {
     let mut there = each(false);
     there.image_a = true;
     let mut folder = ModelFolder::new(alloc, "D", world_bytes(&rt, alloc), there);
-    let made = create_zeros(&mut folder, 3);
+    let made = create(&mut folder, FirstWords::Zeros(3));
     assert!(rt; made.is_err());
     drop(made);
     same(&rt, "files that were made", count_made(&folder), 0);

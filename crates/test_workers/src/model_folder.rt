@@ -10,14 +10,16 @@ ghost use Rattle.test_workers.specs.ModelFolder.{act_of, acts_of};
 
 use crate::note::Note;
 use disk_model::{Disk, FourFiles, ModelFile, WorldFile};
+use file_disk::{Pace, Valve};
 use std::alloc::{AllocError, Global};
 use std::fmt::Display;
 use std::io::{self, ErrorKind};
 use world_actions::Refusal;
 use world_folder::{
-    Ending, Entry, FileKind, Folder, GUARD, Guard, Identity, LockState, Occupied, Reading,
-    WorldDisk,
+    Ending, Entry, FileKind, Folder, GUARD, Guard, Identity, LockState, Occupied, Reading, Source,
+    SourceFile, WorldDisk,
 };
+use world_server::ServedDisk;
 
 /// The number of the device on which the files lie.
 const DEVICE: u64 = 1;
@@ -73,9 +75,15 @@ impl Disk for ModelDisk {
 impl WorldDisk for ModelDisk {
     ghost failure = { λ _. None };
 
-    fn take_failure(&mut self) -> Option<io::Error> {
+    fn last_failure(&self) -> Option<io::Error> {
         None
     }
+}
+
+impl ServedDisk for ModelDisk {
+    fn pace(&mut self, _pace: Pace) {}
+
+    fn stop_by(&mut self, _valve: Valve) {}
 }
 
 /// A folder in memory. A read of a name gives the bytes that the folder was made with, whatever is
@@ -167,9 +175,7 @@ fn disk_of(alloc: Global, bytes: Vec<u8>, identity: Identity) -> io::Result<Mode
     }
 }
 
-impl Folder for ModelFolder<'_> {
-    type Handle = ModelHandle;
-
+impl Source for ModelFolder<'_> {
     type File = ModelDisk;
 
     ghost honest = { true };
@@ -178,12 +184,6 @@ impl Folder for ModelFolder<'_> {
 
     ghost history = { λ folder. acts_of folder.notes.items };
 
-    ghost entry_of = { λ handle. handle.entry };
-
-    ghost content_of = { λ handle. handle.bytes.items };
-
-    ghost identity = { λ disk. disk.identity };
-
     fn alloc(&self) -> Global {
         self.alloc
     }
@@ -191,6 +191,70 @@ impl Folder for ModelFolder<'_> {
     fn path(&self) -> &str {
         self.path
     }
+
+    fn open_to_read(
+        &mut self,
+        file: WorldFile,
+        _how: Reading,
+    ) -> io::Result<SourceFile<ModelDisk>> {
+        if !*self.there.get(file) {
+            self.note(Note::Unopened(file))?;
+            return Err(io::Error::from_raw_os_error(libc::ENOENT));
+        }
+        let bytes = Vec::from_slice(self.alloc, self.bytes.get(file))?;
+        let disk = disk_of(self.alloc, bytes, entry_of(file).identity)?;
+        let read = Vec::from_slice(self.alloc, disk.file.now())?;
+        self.note(Note::Read(file, read))?;
+        Ok(SourceFile::of(disk))
+    }
+
+    fn read_guard(&mut self) -> Result<Option<Guard>, Ending> {
+        let guard = self.guard;
+        self.note(Note::GuardRead(guard))?;
+        Ok(guard)
+    }
+
+    fn guard_age(&self) -> Option<u64> {
+        None
+    }
+
+    fn length(&mut self, file: WorldFile) -> io::Result<u64> {
+        let length = self.copy_of(file)?.len() as u64;
+        self.note(Note::Measured(file, length))?;
+        Ok(length)
+    }
+
+    fn lock_state(&mut self, file: WorldFile) -> io::Result<LockState> {
+        self.note(Note::Asked(file, LockState::Free))?;
+        Ok(LockState::Free)
+    }
+
+    fn own_lock_state(&mut self) -> io::Result<LockState> {
+        self.note(Note::AskedOwn(LockState::Free))?;
+        Ok(LockState::Free)
+    }
+
+    fn print<T: Display + Drop>(&mut self, line: T) -> io::Result<()> {
+        let text = line.to_string(self.alloc)?;
+        self.note(Note::Printed(text))
+    }
+
+    fn warn<T: Display + Drop>(&mut self, line: T) -> io::Result<()> {
+        let text = line.to_string(self.alloc)?;
+        self.note(Note::Warned(text))
+    }
+
+    fn pause(&self) {}
+}
+
+impl Folder for ModelFolder<'_> {
+    type Handle = ModelHandle;
+
+    ghost entry_of = { λ handle. handle.entry };
+
+    ghost content_of = { λ handle. handle.bytes.items };
+
+    ghost identity = { λ disk. disk.identity };
 
     fn look(&mut self, file: WorldFile) -> io::Result<Option<Entry>> {
         let there = if *self.there.get(file) {
@@ -231,18 +295,6 @@ impl Folder for ModelFolder<'_> {
         Ok(())
     }
 
-    fn open_to_read(&mut self, file: WorldFile, _how: Reading) -> io::Result<ModelDisk> {
-        if !*self.there.get(file) {
-            self.note(Note::Unopened(file))?;
-            return Err(io::Error::from_raw_os_error(libc::ENOENT));
-        }
-        let bytes = Vec::from_slice(self.alloc, self.bytes.get(file))?;
-        let disk = disk_of(self.alloc, bytes, entry_of(file).identity)?;
-        let read = Vec::from_slice(self.alloc, disk.file.now())?;
-        self.note(Note::Read(file, read))?;
-        Ok(disk)
-    }
-
     fn entry(&self, handle: &ModelHandle) -> io::Result<Entry> {
         Ok(handle.entry)
     }
@@ -254,16 +306,6 @@ impl Folder for ModelFolder<'_> {
     fn take(&self, handle: ModelHandle) -> io::Result<ModelDisk> {
         let ModelHandle { entry, bytes } = handle;
         disk_of(self.alloc, bytes, entry.identity)
-    }
-
-    fn read_guard(&mut self) -> Result<Option<Guard>, Ending> {
-        let guard = self.guard;
-        self.note(Note::GuardRead(guard))?;
-        Ok(guard)
-    }
-
-    fn guard_age(&self) -> Option<u64> {
-        None
     }
 
     fn unguarded(&self) -> Result<(), Ending> {
@@ -288,16 +330,6 @@ impl Folder for ModelFolder<'_> {
         self.note(Note::OwnNameSynced)
     }
 
-    fn print<T: Display + Drop>(&mut self, line: T) -> io::Result<()> {
-        let text = line.to_string(self.alloc)?;
-        self.note(Note::Printed(text))
-    }
-
-    fn warn<T: Display + Drop>(&mut self, line: T) -> io::Result<()> {
-        let text = line.to_string(self.alloc)?;
-        self.note(Note::Warned(text))
-    }
-
     fn is_empty(&mut self) -> io::Result<bool> {
         let there = &self.there;
         if there.image_a || there.image_b || there.log_a || there.log_b {
@@ -313,22 +345,4 @@ impl Folder for ModelFolder<'_> {
         self.note(Note::FoundOutside(outer))?;
         Ok(false)
     }
-
-    fn length(&mut self, file: WorldFile) -> io::Result<u64> {
-        let length = self.copy_of(file)?.len() as u64;
-        self.note(Note::Measured(file, length))?;
-        Ok(length)
-    }
-
-    fn lock_state(&mut self, file: WorldFile) -> io::Result<LockState> {
-        self.note(Note::Asked(file, LockState::Free))?;
-        Ok(LockState::Free)
-    }
-
-    fn own_lock_state(&mut self) -> io::Result<LockState> {
-        self.note(Note::AskedOwn(LockState::Free))?;
-        Ok(LockState::Free)
-    }
-
-    fn pause(&self) {}
 }

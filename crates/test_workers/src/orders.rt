@@ -31,7 +31,9 @@ fn begin_steps<M: Method>(rt: &(impl Wait + Abort), alloc: Global, asks: AskRece
         checkpointer: Open,
         log_writer: Open,
     };
-    Together::begin(rt, alloc, gates, opened, asks, 1).expect(rt, "memory for workers")
+    Together::begin(rt, alloc, gates, opened, asks, 1)
+        .ok()
+        .expect(rt, "memory for workers")
 }
 
 // Makes the step, and checks the files after it.

@@ -33,7 +33,9 @@ pub fn begin<
     let opened = open_files::<M, D>(rt, alloc, files);
     let watch = Reporter { rt: *rt, to };
     let spins = Spins::on_this_machine(rt, alloc).expect(rt, "a count");
-    start(rt, alloc, gates, watch, opened, every, spins).expect(rt, "workers")
+    start(rt, alloc, gates, watch, opened, every, &spins)
+        .ok()
+        .expect(rt, "workers")
 }
 
 /// Waits until the workers have ended, and brings their ends together.

@@ -137,9 +137,9 @@ fn joined<M: Method, D: Disk + Drop>(
     } = channel;
     let mutator = Mutator::new(Open, alloc, asks, front, to, ended, 1, bell, heard);
     let checkpointer = Checkpointer::new(held, back, out, images, rung);
-    let log_writer = LogWriter::new(alloc, Open, from, reported, log, reported_down, ended).expect(
-        rt, "memory",
-    );
+    let log_writer = LogWriter::new(alloc, Open, from, reported, log, reported_down, ended)
+        .ok()
+        .expect(rt, "memory");
     Serial {
         mutator,
         log_writer,

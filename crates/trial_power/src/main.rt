@@ -29,7 +29,7 @@ use std::thread::Threads;
 use std::time::Clock;
 use trial_kit::{CutTally, FailureTally, exit_code_of};
 use world_actions::Refusal;
-use world_folder::{SystemFolder, create};
+use world_folder::{FirstWords, SystemFolder, create};
 
 /// The current folder of the program.
 const FOLDER: &str = ".";
@@ -54,7 +54,8 @@ fn try_all<
         + Send
         + 'static,
 >(rt: &R) -> Result<bool, Refusal> {
-    create(&mut SystemFolder::new(rt, FOLDER), CELLS).map_err(|_: _| Refusal::Device)?;
+    let world = FirstWords::Zeros(CELLS);
+    create(&mut SystemFolder::new(rt, FOLDER), world).map_err(|_: _| Refusal::Device)?;
     Ok(try_method::<R, Zig>(rt, "zigzag", 1)? & try_method::<R, Pong>(rt, "pingpong", 2)?)
 }
 

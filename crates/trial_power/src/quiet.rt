@@ -47,7 +47,7 @@ pub fn start_quiet<
         log_writer: Open,
     };
     let spins = Spins::on_this_machine(rt, alloc)?;
-    match start(rt, alloc, gates, Quiet, opened, every, spins) {
+    match start(rt, alloc, gates, Quiet, opened, every, &spins) {
         Ok(started) => Ok(started),
         Err(_) => Err(Refusal::NoMemory),
     }

@@ -80,7 +80,7 @@ given_reason disk checks files given world (Ok s) g = tt
 given_reason disk checks files given world (Err (failure.NotRecovered left why)) g = absurd g
 given_reason disk checks files given world (Err (failure.NotStarted recovered left refusal)) g = absurd g
 given_reason disk checks files given world (Err (failure.NotOpened recovered left ending)) g = tt
-given_reason disk checks files given world (Err (failure.NotRun recovered ending)) g = tt
+given_reason disk checks files given world (Err (failure.NotRun recovered ending)) g = g.1
 
 -- ---- the lines
 
@@ -88,7 +88,7 @@ pub given_lines : {D : Type 0} (given : FourFiles D) (world : WorldReport) (f : 
 given_lines given world (failure.NotRecovered left why) g = absurd g
 given_lines given world (failure.NotStarted recovered left refusal) g = absurd g
 given_lines given world (failure.NotOpened recovered left ending) g = ap (λ r. recovered_line r ∷ []) (sym g.0)
-given_lines given world (failure.NotRun recovered ending) g = ap (λ r. recovered_line r ∷ []) (sym g)
+given_lines given world (failure.NotRun recovered ending) g = ap (λ r. recovered_line r ∷ []) (sym g.0)
 
 -- ---- the answer of a server
 

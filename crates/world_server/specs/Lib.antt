@@ -5,4 +5,5 @@ pub mod Lines
 pub mod Methods
 pub mod Paths
 pub mod Room
+pub mod FolderRun
 pub mod Served

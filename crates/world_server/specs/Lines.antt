@@ -1,7 +1,6 @@
 -- The texts of the lines that a server prints.
 use Rattle.std.specs.Prelude.{ℕ, List, [], ◌++◌, ◌==◌, codes, decimal, Option, Some, None}
 use Rattle.std.specs.Prelude.{if◌then◌else◌}
-use Rattle.std.specs.Net.Socket.{socket_port}
 use Rattle.std.specs.Path.{path_buf_bytes}
 use Rattle.client_service.specs.declared.door.Unserved.TheVariants.{NoMemory, NoThread}
 use Rattle.world_folder.specs.Texts.{finding_text, world_text}
@@ -69,10 +68,10 @@ line_text paths other = None
 
 -- the line of a place that clients may come to
 abbrev pub listening_line : Endpoint → Line
-listening_line (place.Port address) = line.Listening (socket_port address)
+listening_line (place.Port port) = line.Listening port.0
 listening_line (place.Socket file) = line.ListeningAtSocket
 
 -- the line of a place that no more clients can come to
 abbrev pub closed_line : Endpoint → Line
-closed_line (place.Port address) = line.PortClosed
+closed_line (place.Port port) = line.PortClosed
 closed_line (place.Socket file) = line.SocketClosed

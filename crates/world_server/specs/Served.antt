@@ -1,6 +1,7 @@
 -- A world that a server serves, from its four files as they were to the files as they are left.
-use Rattle.std.specs.Prelude.{◌≡◌, ◌≤◌, ◌⊎◌, Bool, ℕ, List, [], ◌∷◌, ◌++◌, length, take, max}
+use Rattle.std.specs.Prelude.{◌≡◌, ◌≢◌, ◌≤◌, ◌⊎◌, Bool, ℕ, List, [], ◌∷◌, ◌++◌, length, take, max}
 use Rattle.std.specs.Prelude.{Option, None, Some}
+use Rattle.std.specs.Option.{option_map_or}
 use Rattle.world_actions.specs.declared.action.Action.{Action}
 use Rattle.world_actions.specs.declared.refusal.Refusal.TheVariants.{NoMemory, Device}
 use Rattle.disk_model.specs.declared.disk.Disk.{Ghosts}
@@ -18,13 +19,20 @@ use Rattle.workers.specs.declared.checkpointer.round.ImageWriter.{ImageWriter}
 use Rattle.workers.specs.declared.log_writer.Log.{Log}
 use Rattle.worker_steps.specs.Stopped.{WorldStands, acknowledged_by}
 use Rattle.worker_threads.specs.Opening.{files_of}
+use Rattle.worker_threads.specs.declared.threads.NotStarted.{NotStarted}
+use Rattle.worker_threads.specs.declared.threads.NotStarted.TheVariants as unbegun
+use Rattle.client_service.specs.declared.server.NotServed.{NotServed}
+use Rattle.client_service.specs.declared.server.NotServed.TheVariants.{NotBegun, Left}
 use Rattle.world_folder.specs.Ending.{IsFault}
 use Rattle.world_folder.specs.Unrecovered.{IsUnrecovered}
 use Rattle.world_folder.specs.declared.ending.Ending.{Ending}
+use Rattle.world_folder.specs.declared.ending.Ending.TheVariants.{Fault, Server}
+use Rattle.world_folder.specs.declared.ending.ServerEnding.TheVariants.{NoThread}
 use Rattle.world_folder.specs.declared.found.WorldReport.{WorldReport}
 use Rattle.world_folder.specs.declared.lost.Finding.{Finding}
 use Rattle.world_folder.specs.declared.lost.Checks.{Checks}
-use Rattle.world_server.specs.Serving.{EndsServing}
+use Rattle.world_server.specs.Serving.{EndsServing, left_ending}
+use Rattle.world_server.specs.declared.standing.Losses.{Losses}
 use Rattle.world_server.specs.declared.line.Line.{Line}
 use Rattle.world_server.specs.declared.line.Line.TheVariants as line
 use Rattle.world_server.specs.declared.served.WorldFailure.{WorldFailure}
@@ -64,6 +72,19 @@ abbrev pub EndsBy : {D : Type 0} → WorldFailure D → Ending → Type 0
 EndsBy (failure.NotOpened world files given) ending = ending ≡ given
 EndsBy (failure.NotRun world given) ending = ending ≡ given
 EndsBy other ending = IsFault ending
+
+-- how a server ends whose workers aren't started
+abbrev pub ending_unbegun : NotStarted → Ending
+ending_unbegun unbegun.NoMemory = Fault NoMemory
+ending_unbegun unbegun.NoThread = Server NoThread
+
+-- why a world isn't served to its end: its files are given back if they are there
+abbrev pub failure_by : {D : Type 0} → WorldReport → Losses → NotServed D → WorldFailure D
+failure_by world lost (NotBegun refused) =
+    let ending : Ending = ending_unbegun refused.why in
+    option_map_or (λ files. failure.NotOpened world files ending) refused.files
+    (failure.NotRun world ending)
+failure_by world lost Left = failure.NotRun world (left_ending lost)
 
 -- ---- the files
 
@@ -107,7 +128,7 @@ module _ {D : Type 0} (disk : Ghosts D) where
       (max acknowledged (acknowledged_by c w)) × (m.ended ≡ length all)
 
   -- The files of a world that isn't served. They were only read, or they still recover to the same
-  -- world. Nothing is said of files that were handed to workers.
+  -- world. Nothing is said of the files once a worker ran.
   abbrev pub LeavesWorld : FourFiles D → WorldFailure D → Type 0
   LeavesWorld files (failure.NotRecovered left why) = EachFile files left (KeepsFile disk)
   LeavesWorld files (failure.NotStarted world left refusal) = KeepsWorld files world.tick left
@@ -115,18 +136,20 @@ module _ {D : Type 0} (disk : Ghosts D) where
   LeavesWorld files (failure.NotRun world ending) = Unit {0}
 
 -- The reason why a world isn't served: recovery or the checks refuse the files, or its start found
--- no memory or a device failed. What else fails, the ending says.
+-- no memory or a device failed. What else fails, the ending says. It says no want of memory of a
+-- world whose files are lost.
 abbrev pub FailsFor : {D : Type 0} → Ghosts D → Checks → FourFiles D → WorldFailure D → Type 0
 FailsFor disk checks files (failure.NotRecovered left why) = IsUnrecovered disk checks files why
 FailsFor disk checks files (failure.NotStarted world left refusal) =
     (refusal ≡ NoMemory) ⊎ (refusal ≡ Device)
 FailsFor disk checks files (failure.NotOpened world left ending) = Unit {0}
-FailsFor disk checks files (failure.NotRun world ending) = Unit {0}
+FailsFor disk checks files (failure.NotRun world ending) = ending ≢ Fault NoMemory
 
--- an open world that isn't served has its files again, unless workers have them
+-- an open world that isn't served has its files again, unless a worker ran or would have had them
 abbrev pub GivesBack : {D : Type 0} → WorldReport → FourFiles D → WorldFailure D → Type 0
 GivesBack world files (failure.NotRecovered left why) = ⊥
 GivesBack world files (failure.NotStarted recovered left refusal) = ⊥
 GivesBack world files (failure.NotOpened recovered left ending) =
     (recovered ≡ world) × (left ≡ files)
-GivesBack world files (failure.NotRun recovered ending) = recovered ≡ world
+GivesBack world files (failure.NotRun recovered ending) =
+    (recovered ≡ world) × (ending ≢ Fault NoMemory)

@@ -50,3 +50,10 @@ pub record StopsWith (log_down : Bool) (images : Phase) (reason : Closed)
   pub log : log_down ≡ true → ending ≡ Server LogDown
   pub images_down : log_down ≡ false → images ≡ Down → ending ≡ Server ImagesDown
   pub up : log_down ≡ false → images ≢ Down → ending ≡ closed_ending reason
+
+-- A server that has stopped ends so, if its lines could be printed. One that ended well may end
+-- otherwise if they couldn't.
+abbrev pub StopsAndPrints : (log_down : Bool) (images : Phase) (reason : Closed) → Ending → Type 0
+StopsAndPrints log_down images reason ending =
+    (stopped : Ending) × StopsWith log_down images reason stopped
+    × (stopped ≢ Ran → ending ≡ stopped)

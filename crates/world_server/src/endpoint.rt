@@ -5,9 +5,10 @@ ghost use Rattle.world_server.specs.Lines.{listening_line, closed_line};
 use crate::line::Line;
 use crate::socket::SocketFile;
 use std::fs::Files;
-use std::net::{Net, SocketAddr, TcpStream};
+use std::net::{Net, TcpStream};
 use std::os::unix::net::UnixStream;
 use std::time::Duration;
+use transports::LocalPort;
 
 /// How long the connection that wakes a server at a port may take.
 const PATIENCE_MILLISECONDS: u64 = 100;
@@ -15,7 +16,7 @@ const PATIENCE_MILLISECONDS: u64 = 100;
 /// The port or the socket that a server listens on.
 #[derive(Drop)]
 pub enum Endpoint {
-    Port(SocketAddr),
+    Port(LocalPort),
     Socket(SocketFile),
 }
 
@@ -25,7 +26,7 @@ impl Endpoint {
         ensures { result ≡ listening_line self.now }
     {
         match self {
-            Endpoint::Port(address) => Line::Listening(address.port()),
+            Endpoint::Port(port) => Line::Listening(port.0),
             Endpoint::Socket(_) => Line::ListeningAtSocket,
         }
     }
@@ -44,9 +45,9 @@ impl Endpoint {
     /// the system's queue of connections is full; a server with such a queue is awake.
     pub fn wake<R: Net>(&self, rt: &R) {
         match self {
-            Endpoint::Port(address) => {
+            Endpoint::Port(port) => {
                 let patience = Duration::from_millis(PATIENCE_MILLISECONDS);
-                let _ = TcpStream::connect_timeout(rt, address, patience);
+                let _ = TcpStream::connect_timeout(rt, &port.address(), patience);
             }
             Endpoint::Socket(file) => {
                 let _ = UnixStream::connect(rt, file.path.as_path());

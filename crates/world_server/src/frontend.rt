@@ -1,15 +1,17 @@
 //! The side of a server that its operator and its clients meet.
-ghost use Rattle.std.specs.Prelude.{◌≡◌, ◌++◌, ◌∷◌, [], Bool, List, IsTrue, IfErr};
+ghost use Rattle.std.specs.Prelude.{◌≡◌, ◌≢◌, ◌++◌, ◌∷◌, [], Bool, List, IsTrue, IfErr};
 ghost use Rattle.world_folder.specs.Ending.{IsFault};
+ghost use Rattle.world_server.specs.Serving.{EndsServing};
 ghost use Rattle.world_server.specs.declared.line.Line.{Line as Printed};
 
 use crate::line::Line;
 use crate::standing::Losses;
 use disk_model::Disk;
+use file_disk::{FileDisk, Pace, Valve};
 use shared_capture::Method;
 use transports::Listener;
 use worker_steps::Opened;
-use world_folder::Ending;
+use world_folder::{Ending, Guard, WorldDisk};
 
 /// Prints the lines of a server of such a world, and lets its clients in. `W` hears of its workers
 /// and its sessions.
@@ -41,4 +43,40 @@ pub trait Frontend<M: Method, D: Disk + Drop, W> {
 
     /// The parts of the server that are down so far.
     fn losses(&self) -> Losses;
+
+    /// Ends it, once the server has ended so, and returns how the program ends. A server that ended
+    /// well ends with a fault if its output couldn't be printed.
+    fn finish(self, ending: Ending) -> Ending
+        ensures ends { EndsServing ending → EndsServing result }
+        ensures other { ending ≢ Ending.Ran → result ≡ ending };
+}
+
+/// Becomes the frontend of a server, once it holds the files of its world.
+pub trait IntoFrontend<M: Method, D: Disk + Drop, W> {
+    type Frontend: Frontend<M, D, W>;
+
+    /// The image files are paced by the ticks of the world, the log files are behind the valve, and
+    /// the world has this guard.
+    fn into_frontend(self, guard: Option<Guard>, pace: Pace, valve: Valve) -> Self::Frontend;
+}
+
+/// A disk of a world that is served.
+pub trait ServedDisk: WorldDisk {
+    /// Paces the writes from now on.
+    fn pace(&mut self, pace: Pace)
+        ensures { self.new ≡ self.old };
+
+    /// Puts the file behind this valve: once it is shut each sync fails.
+    fn stop_by(&mut self, valve: Valve)
+        ensures { self.new ≡ self.old };
+}
+
+impl ServedDisk for FileDisk {
+    fn pace(&mut self, pace: Pace) {
+        FileDisk::pace(self, pace);
+    }
+
+    fn stop_by(&mut self, valve: Valve) {
+        FileDisk::stop_by(self, valve);
+    }
 }

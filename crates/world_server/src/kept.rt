@@ -2,34 +2,38 @@
 //! see what is down.
 ghost use Rattle.std.specs.Prelude.{◌≡◌, ◌≢◌, true, false, IfOk, IfErr, IsErr};
 ghost use Rattle.std.specs.IoError.{error_kind};
+ghost use Rattle.std.specs.Path.{path_buf_bytes, path_join};
+ghost use Rattle.disk_model.specs.FourFiles.{mapped, name_of};
 ghost use Rattle.world_folder.specs.Ending.{IsFault};
+ghost use Rattle.world_server.specs.Paths.{ArePathsIn};
 
 use crate::runtime::LookUp;
 use disk_model::{FourFiles, WorldFile};
-use file_disk::FileDisk;
+use file_disk::{FileDisk, Witness};
 use std::alloc::Global;
-use std::fs::File;
 use std::io::{self, ErrorKind};
 use std::path::PathBuf;
 use std::sync::atomic::{AtomicBool, Ordering};
 use std::time::Clock;
 use workers::{ImageWriter, Log};
-use world_folder::{Ending, Entry, blame, lock, path_of};
+use world_folder::{Ending, Entry, blame, path_of};
 
-/// A file that a server has open, by its own descriptor.
+/// A file that a server has open, as its witness sees it.
 #[derive(Drop)]
 pub struct KeptFile {
-    file: File,
+    witness: Witness,
     path: PathBuf,
     is_missed: AtomicBool,
 }
 
 impl KeptFile {
     fn of(alloc: Global, folder: &str, file: WorldFile, disk: &FileDisk) -> Result<Self, Ending>
-        ensures { IfErr result IsFault }
+        ensures path { IfOk result (λ kept.
+            path_buf_bytes kept.path ≡ path_join folder.now (name_of file)) }
+        ensures fault { IfErr result IsFault }
     {
         Ok(KeptFile {
-            file: blame(alloc, folder, file.name(), disk.try_clone_file())?,
+            witness: blame(alloc, folder, file.name(), disk.witness())?,
             path: path_of(alloc, folder, file.name())?,
             is_missed: AtomicBool::new(false),
         })
@@ -39,7 +43,8 @@ impl KeptFile {
     /// removed or renamed, or another one took its place.
     pub fn is_newly_missed<R: LookUp>(&self, rt: &R) -> bool {
         let found = rt.entry_at(self.path.as_str());
-        is_missing(self.entry(), found) && !self.is_missed.swap(true, Ordering::SeqCst)
+        let held = self.witness.metadata().map(|held: _| Entry::of(&held));
+        is_missing(held, found) && !self.is_missed.swap(true, Ordering::SeqCst)
     }
 
     /// True if that was seen before.
@@ -50,12 +55,7 @@ impl KeptFile {
     /// Locks the file up to the server's end, which `status` sees. It waits while `status` asks, a
     /// second at most, and gives up then.
     pub fn lock<R: Clock>(&self, rt: &R) {
-        let _ = lock(rt, &self.file);
-    }
-
-    // The open file.
-    fn entry(&self) -> io::Result<Entry> {
-        Ok(Entry::of(&self.file.metadata()?))
+        let _ = self.witness.lock(rt);
     }
 }
 
@@ -66,7 +66,9 @@ pub fn kept_files(
     images: &ImageWriter<FileDisk>,
     log: &Log<FileDisk>,
 ) -> Result<FourFiles<KeptFile>, Ending>
-    ensures { IfErr result IsFault }
+    ensures paths { IfOk result (λ kept.
+        ArePathsIn folder.now (mapped (λ file. file.path) kept)) }
+    ensures fault { IfErr result IsFault }
 {
     Ok(FourFiles {
         image_a: KeptFile::of(alloc, folder, WorldFile::ImageA, &images.image_a)?,

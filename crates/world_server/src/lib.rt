@@ -27,11 +27,11 @@ mod streams;
 mod system_frontend;
 mod watchdog;
 
-pub use frontend::Frontend;
+pub use frontend::{Frontend, IntoFrontend, ServedDisk};
 pub use line::Line;
 pub use runtime::{LookUp, Runtime};
 pub use served::{Served, WorldFailure, serve_world, serve_world as serve_tcp};
 pub use service::{Address, Clients, Every, Service};
-pub use serving::serve;
+pub use serving::{FolderRun, Left, serve, serve_folder};
 pub use socket::SocketMode;
 pub use standing::Losses;

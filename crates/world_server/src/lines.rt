@@ -14,7 +14,6 @@ use disk_model::{FourFiles, WorldFile};
 use file_disk::{FileDisk, Pace};
 use std::alloc::{AllocError, Global};
 use std::io;
-use std::net::Net;
 use std::sync::{Arc, Wait};
 use std::time::{Clock, Instant};
 use worker_threads::{Acked, TickWatch, Watch};
@@ -23,7 +22,7 @@ use workers::{ImageWriter, Log};
 /// Passes on what happens in a running server as lines, and never waits for their readers. It locks
 /// the file that says what is down.
 #[derive(Drop)]
-pub struct Lines<R: Wait + Clock + Net + Copy> {
+pub struct Lines<R: Wait + Clock + Copy> {
     pub rt: R,
     /// The server listens there.
     pub endpoint: Arc<Endpoint, Global>,
@@ -52,7 +51,7 @@ pub struct Lines<R: Wait + Clock + Net + Copy> {
     pub acked: Option<AckedOut>,
 }
 
-impl<R: Wait + Clock + Net + Copy> Clone for Lines<R> {
+impl<R: Wait + Clock + Copy> Clone for Lines<R> {
     fn clone(&self) -> Result<Self, AllocError> {
         Ok(Lines {
             rt: self.rt,
@@ -77,7 +76,7 @@ impl<R: Wait + Clock + Net + Copy> Clone for Lines<R> {
     }
 }
 
-impl<R: Wait + Clock + Net + Copy> Lines<R> {
+impl<R: Wait + Clock + Copy> Lines<R> {
     // Lets the server be left, and wakes it if it waits for clients.
     fn leave(&self) {
         self.standing.leave();
@@ -108,7 +107,7 @@ impl<R: Wait + Clock + Net + Copy> Lines<R> {
     }
 }
 
-impl<R: Wait + Clock + Net + Copy> TickWatch for Lines<R> {
+impl<R: Wait + Clock + Copy> TickWatch for Lines<R> {
     fn ticks_ended(&mut self, ticks: u64, since: u64) {
         self.pace.ticks_ended(ticks);
         if let Some(pulse) = &self.pulse {
@@ -118,7 +117,7 @@ impl<R: Wait + Clock + Net + Copy> TickWatch for Lines<R> {
     }
 }
 
-impl<R: Wait + Clock + Net + Copy> Watch<FileDisk> for Lines<R> {
+impl<R: Wait + Clock + Copy> Watch<FileDisk> for Lines<R> {
     fn image_opened(&mut self, tick: u64) {
         if let Some(pulse) = &self.pulse {
             pulse.image_opened(tick);
@@ -155,7 +154,7 @@ impl<R: Wait + Clock + Net + Copy> Watch<FileDisk> for Lines<R> {
     }
 }
 
-impl<R: Wait + Clock + Net + Copy> Door for Lines<R> {
+impl<R: Wait + Clock + Copy> Door for Lines<R> {
     fn opened(&mut self) {
         self.output.print(&self.rt, self.endpoint.listening());
     }

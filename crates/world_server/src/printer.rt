@@ -111,9 +111,7 @@ pub fn start_printer<
 >(rt: &R, alloc: Global, stream: S) -> Result<(Printer, Receiver<io::Result<()>>), NotStarted> {
     let (to, lines) = bounded(alloc, LINES)?;
     let (done, outcome) = bounded(alloc, 1)?;
-    let Ok(dropped) = Arc::new(alloc, AtomicU64::new(0)) else {
-        return Err(NotStarted::NoMemory);
-    };
+    let dropped = Arc::new(alloc, AtomicU64::new(0)).map_err(|_: _| AllocError)?;
     let counted = dropped.clone()?;
     let here = *rt;
     let run = move || {

@@ -1,6 +1,8 @@
-//! What a server needs of the system besides its network.
+//! What a server needs of the system.
 use std::fs::{self, File, Files};
 use std::io;
+use std::net::{Net, TcpListener, TcpStream};
+use std::sync::Wait;
 use std::thread::Threads;
 use std::time::Clock;
 use world_folder::{Entry, Guard, put_guard, touch_guard};
@@ -10,6 +12,13 @@ use world_folder::{Entry, Guard, put_guard, touch_guard};
 pub trait Runtime: Threads + Files<File = File> + Print + Eprint + AllocGlobal {}
 
 impl<R: Threads + Files<File = File> + Print + Eprint + AllocGlobal> Runtime for R {}
+
+/// The handles that the threads of a server get too. `serve` names each of them, since the kit
+/// proves no `main` that calls a function with this bound.
+pub trait ThreadRuntime: Wait + Clock + LookUp + Net<Listener = TcpListener, Stream = TcpStream> {}
+
+impl<R: Wait + Clock + LookUp + Net<Listener = TcpListener, Stream = TcpStream>> ThreadRuntime
+    for R {}
 
 /// The calls on files of the thread that looks at a server. The kit proves no thread that has
 /// `Files`.

@@ -5,12 +5,13 @@ ghost use Rattle.workers.specs.AskOrder.{PlaysInTurn};
 ghost use Rattle.worker_steps.specs.Begun.{IsWhole};
 ghost use Rattle.worker_steps.specs.Stopped.{StaysSound};
 ghost use Rattle.worker_threads.specs.Opening.{files_of};
+ghost use Rattle.client_service.specs.Accepting.{LeavesFiles};
 ghost use Rattle.world_folder.specs.declared.lost.Finding.{Finding as Named};
 ghost use Rattle.world_folder.specs.declared.lost.OnLoss.{OnLoss};
 ghost use Rattle.world_folder.specs.Lost.{JudgedIn, lost_in};
-ghost use Rattle.world_server.specs.Serving.{EndsServing, StopsWith, left_ending};
+ghost use Rattle.world_server.specs.Serving.{EndsServing, StopsWith};
 ghost use Rattle.world_server.specs.Served.{recovered_line, finding_lines, stopped_line};
-ghost use Rattle.world_server.specs.Served.{failure_lines};
+ghost use Rattle.world_server.specs.Served.{failure_lines, failure_by};
 ghost use Rattle.world_server.specs.Served.{RecoversTo, KeepsWorld, StandsOpened, GoesOnSound};
 ghost use Rattle.world_server.specs.Served.{LeavesWorld, FailsFor, GivesBack, EndsAsFailed};
 
@@ -27,8 +28,8 @@ use std::sync::Wait;
 use std::thread::Threads;
 use std::time::Clock;
 use worker_steps::{Gates, Opened};
-use worker_threads::{Watch, start_world};
-use workers::{ImageWriter, Log, Open};
+use worker_threads::{NotStarted, Watch, into_files, start_world};
+use workers::Open;
 use world_actions::Refusal;
 use world_folder::{
     Checked, Checks, Ending, Finding, NotRecovered, ServerEnding, WorldReport, recover_checked,
@@ -49,9 +50,9 @@ pub enum WorldFailure<D: Disk + Drop> {
     NotRecovered(FourFiles<D>, NotRecovered),
     /// The start of this world failed.
     NotStarted(WorldReport, FourFiles<D>, Refusal),
-    /// No client can come to it.
+    /// No client can come to it, or no worker can be started.
     NotOpened(WorldReport, FourFiles<D>, Ending),
-    /// Its workers couldn't be started, or the server was left while they run on.
+    /// There are threads for some of its workers only, or the server was left while they run on.
     NotRun(WorldReport, Ending),
 }
 
@@ -228,34 +229,12 @@ fn serve_opened<
                 front.print(line_of(&stopped));
                 Ok(Served { recovered, stopped })
             }
-            Err(reason) => Err(WorldFailure::NotRun(recovered, not_served(reason, front.losses()))),
+            Err(reason) => Err(not_served(recovered, reason, front.losses())),
         },
-        Err(ending) => Err(WorldFailure::NotOpened(recovered, into_files(opened), ending)),
-    }
-}
-
-// The four files of an open world.
-fn into_files<M: Method, D: Disk + Drop>(opened: Opened<M, D>) -> FourFiles<D>
-    ensures { result ≡ files_of opened.images opened.log }
-{
-    let Opened {
-        front: _,
-        back: _,
-        images,
-        log,
-        ended: _,
-    } = opened;
-    let ImageWriter {
-        keeper: _,
-        image_a,
-        image_b,
-    } = images;
-    let Log { keeper: _, a, b } = log;
-    FourFiles {
-        image_a,
-        image_b,
-        log_a: a,
-        log_b: b,
+        Err(ending) => {
+            let files = into_files(opened.images, opened.log);
+            Err(WorldFailure::NotOpened(recovered, files, ending))
+        }
     }
 }
 
@@ -270,17 +249,29 @@ fn line_of<M: Method, D: Disk + Drop>(stopped: &Stopped<M, D, Open, Open, Open>)
     }
 }
 
-// How the program ends if a server doesn't run to its end, of which so much is lost.
-fn not_served(reason: NotServed, lost: Losses) -> Ending
-    ensures ends { EndsServing result }
-    ensures memory { reason ≡ NotServed.NoMemory → result ≡ Ending.Fault Refusal.NoMemory }
-    ensures thread { reason ≡ NotServed.NoThread → result ≡ Ending.Server ServerEnding.NoThread }
-    ensures left { reason ≡ NotServed.Left → result ≡ left_ending lost }
+// Why a world isn't served to its end, by a server of which so much is lost.
+fn not_served<D: Disk + Drop>(
+    recovered: WorldReport,
+    reason: NotServed<D>,
+    lost: Losses,
+) -> WorldFailure<D>
+    ensures by { result ≡ failure_by recovered lost reason }
+    ensures ends { EndsAsFailed result }
+    ensures left { (files : FourFiles D) → LeavesFiles files reason
+        → GivesBack recovered files result }
 {
     match reason {
-        NotServed::NoMemory => Ending::Fault(Refusal::NoMemory),
-        NotServed::NoThread => Ending::Server(ServerEnding::NoThread),
-        NotServed::Left => ending_of_left(lost),
+        NotServed::NotBegun(refused) => {
+            let ending = match refused.why {
+                NotStarted::NoMemory => Ending::Fault(Refusal::NoMemory),
+                NotStarted::NoThread => Ending::Server(ServerEnding::NoThread),
+            };
+            match refused.files {
+                Some(files) => WorldFailure::NotOpened(recovered, files, ending),
+                None => WorldFailure::NotRun(recovered, ending),
+            }
+        }
+        NotServed::Left => WorldFailure::NotRun(recovered, ending_of_left(lost)),
     }
 }
 

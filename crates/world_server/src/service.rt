@@ -1,4 +1,5 @@
-ghost use Rattle.std.specs.Prelude.{◌≡◌, true, false, IfSome, IfNone};
+ghost use Rattle.std.specs.Prelude.{◌≡◌, true, false};
+ghost use Rattle.world_server.specs.FolderRun.{due_after};
 
 use crate::socket::SocketMode;
 use client_service::Admission;
@@ -58,8 +59,7 @@ pub struct Service<'a> {
 impl Service<'_> {
     /// After how many ticks a round is due.
     pub fn due_after(&self) -> Every
-        ensures given { IfSome self.now.every (λ every. result ≡ every) }
-        ensures by_default { IfNone self.now.every (result.0 ≡ 64) }
+        ensures { result.0 ≡ due_after self.now.every }
     {
         match self.every {
             Some(every) => every,

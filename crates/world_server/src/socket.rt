@@ -3,6 +3,7 @@ ghost use Rattle.std.specs.Prelude.{◌≡◌, ◌≢◌, ◌<◌, length, Err, 
 ghost use Rattle.std.specs.IoError.{error_kind};
 ghost use Rattle.std.specs.Path.{path_buf_bytes};
 ghost use Rattle.std.specs.Fs.{file_type, IsDir, IsFile, IsSymlink};
+ghost use Rattle.world_server.specs.Socket.{LetsIn};
 
 use std::fs::{self, DirBuilder, Files, Metadata, Permissions};
 use std::io::{self, ErrorKind};
@@ -39,11 +40,14 @@ impl SocketMode {
     }
 }
 
-/// The file of a socket that a server listens on.
+/// The file of a socket that a server listens on. The system says that it has the permissions of
+/// the mode.
 #[derive(Drop)]
 pub struct SocketFile {
     pub path: PathBuf,
+    mode: SocketMode,
     made: Metadata,
+    ghost lets_in: { LetsIn mode made },
 }
 
 impl SocketFile {
@@ -72,6 +76,9 @@ const LONGEST_PATH: usize = 101;
 /// The permissions of the folder in which the file is made.
 const OWNER_ALONE: u32 = 0o700;
 
+/// The bits of a file's mode that say who may read, write and run it.
+const PERMISSIONS: u32 = 0o777;
+
 /// Makes a socket at a path, and listens on it. The mode says who may connect from the first moment
 /// on. A socket that nobody listens on is replaced, and any other file at the path is refused.
 pub fn listen_at<R: Files + Net + AllocGlobal>(
@@ -80,6 +87,7 @@ pub fn listen_at<R: Files + Net + AllocGlobal>(
     mode: SocketMode,
 ) -> io::Result<(Listener, SocketFile)>
     ensures path { IfOk result (λ made. path_buf_bytes made.1.path ≡ path.now) }
+    ensures mode { IfOk result (λ made. made.1.mode ≡ mode) }
     ensures long { 101 < length path.now → IsErr result }
 {
     if path.len() > LONGEST_PATH {
@@ -89,8 +97,8 @@ pub fn listen_at<R: Files + Net + AllocGlobal>(
     let room = format!(in rt.alloc(); "{path}.new")?;
     let first = format!(in rt.alloc(); "{path}.new/s")?;
     let own = PathBuf::from_str(rt.alloc(), path)?;
-    let (listener, made) = make_in(rt, room.as_str(), first.as_str(), path, mode)?;
-    Ok((Listener::Unix(listener), SocketFile { path: own, made }))
+    let (listener, file) = make_in(rt, room.as_str(), first.as_str(), own, mode)?;
+    Ok((Listener::Unix(listener), file))
 }
 
 // Makes sure that no file is at a path. It removes a socket that nobody listens on, and
@@ -148,9 +156,11 @@ fn make_in<R: Files + Net>(
     rt: &R,
     room: &str,
     first: &str,
-    path: &str,
+    path: PathBuf,
     mode: SocketMode,
-) -> io::Result<(UnixListener, Metadata)> {
+) -> io::Result<(UnixListener, SocketFile)>
+    ensures { IfOk result (λ made. (made.1.path ≡ path) × (made.1.mode ≡ mode)) }
+{
     sweep(rt, room, first);
     make_room(rt, room)?;
     let made = make(rt, first, path, mode);
@@ -173,14 +183,26 @@ fn make_room<R: Files>(rt: &R, room: &str) -> io::Result<()> {
 fn make<R: Files + Net>(
     rt: &R,
     first: &str,
-    path: &str,
+    path: PathBuf,
     mode: SocketMode,
-) -> io::Result<(UnixListener, Metadata)> {
+) -> io::Result<(UnixListener, SocketFile)>
+    ensures { IfOk result (λ made. (made.1.path ≡ path) × (made.1.mode ≡ mode)) }
+{
     let listener = UnixListener::bind(rt, first)?;
     fs::set_permissions(rt, first, Permissions::from_mode(mode.bits()))?;
-    let made = fs::symlink_metadata(rt, first)?;
-    fs::hard_link(rt, first, path)?;
-    Ok((listener, made))
+    let file = file_with(path, mode, fs::symlink_metadata(rt, first)?)?;
+    fs::hard_link(rt, first, file.path.as_path())?;
+    Ok((listener, file))
+}
+
+// Refuses a file whose permissions aren't those of the mode: its file system keeps none.
+fn file_with(path: PathBuf, mode: SocketMode, made: Metadata) -> io::Result<SocketFile>
+    ensures { IfOk result (λ file. (file.path ≡ path) × (file.mode ≡ mode)) }
+{
+    if made.permissions().mode() & PERMISSIONS != mode.bits() {
+        return Err(io::Error::other("this file system keeps no permissions"));
+    }
+    Ok(SocketFile { path, mode, made })
 }
 
 // Removes the socket's first name and the folder, also those of a server that was killed as it

@@ -5,7 +5,7 @@ ghost use Rattle.world_server.specs.Serving.{EndsServing};
 
 use crate::acked::AckedOut;
 use crate::endpoint::Endpoint;
-use crate::frontend::Frontend;
+use crate::frontend::{Frontend, IntoFrontend};
 use crate::guarding::{GuardKeeper, started_guard};
 use crate::heartbeat::Heartbeat;
 use crate::kept::kept_files;
@@ -13,7 +13,7 @@ use crate::line::Line;
 use crate::lines::Lines;
 use crate::reporter::start_reporter;
 use crate::room::Room;
-use crate::runtime::{LookUp, Runtime};
+use crate::runtime::{LookUp, Runtime, ThreadRuntime};
 use crate::service::{Address, Service};
 use crate::socket::listen_at;
 use crate::standing::{Losses, Standing};
@@ -24,14 +24,13 @@ use crossbeam_channel::{Receiver, Sender, bounded};
 use disk_model::Disk;
 use file_disk::{FileDisk, Pace, Valve};
 use shared_capture::{Method, signal_pair};
-use std::alloc::Global;
+use std::alloc::{AllocError, Global};
 use std::fs::{File, Files};
-use std::io;
-use std::net::{Ipv4Addr, Net, SocketAddr, TcpListener, TcpStream};
+use std::net::{Net, TcpListener, TcpStream};
 use std::sync::{Arc, Wait};
 use std::thread::Threads;
 use std::time::{Clock, Duration};
-use transports::Listener;
+use transports::{Listener, LocalPort};
 use worker_steps::Opened;
 use worker_threads::NotStarted;
 use workers::ImageWriter;
@@ -65,26 +64,20 @@ pub struct SystemFrontend<'a, R: Wait + Clock + Net + Files + Copy> {
     valve: Valve,
 }
 
-impl<
-    'a,
-    R: Runtime
-        + Wait
-        + Clock
-        + LookUp
-        + Net<Listener = TcpListener, Stream = TcpStream>
-        + Copy
-        + Send
-        + 'static,
-> SystemFrontend<'a, R> {
-    /// Starts the threads of the streams. The image files are paced by the ticks of the world, the
-    /// log files are behind the valve, and the world has this guard.
-    pub fn start(
-        rt: &R,
-        service: &Service<'a>,
-        guard: Option<Guard>,
-        pace: Pace,
-        valve: Valve,
-    ) -> Result<Self, Ending>
+/// The streams of a server that holds no files yet.
+#[derive(Drop)]
+pub struct SystemStreams<'a, R: Wait + Clock + Net + Files + Copy> {
+    rt: R,
+    service: Service<'a>,
+    streams: Option<Streams>,
+    standing: Arc<Standing, Global>,
+    reports: Option<Sender<Arc<Pulse, Global>>>,
+    watchdog: Option<Sender<Watched>>,
+}
+
+impl<'a, R: Runtime + ThreadRuntime + Copy + Send + 'static> SystemStreams<'a, R> {
+    /// Starts the threads of the streams.
+    pub fn start(rt: &R, service: &Service<'a>) -> Result<Self, Ending>
         ensures { IfErr result IsFault }
     {
         let Ok(standing) = Arc::new(rt.alloc(), Standing::new()) else {
@@ -95,9 +88,40 @@ impl<
             Err(NotStarted::NoThread) => (None, None, None),
             Err(NotStarted::NoMemory) => return Err(Ending::Fault(Refusal::NoMemory)),
         };
-        Ok(SystemFrontend {
+        Ok(SystemStreams {
             rt: *rt,
             service: *service,
+            streams,
+            standing,
+            reports,
+            watchdog,
+        })
+    }
+}
+
+impl<'a, R: Runtime + ThreadRuntime + Copy + Send + 'static, M: Method> IntoFrontend<
+    M,
+    FileDisk,
+    Lines<R>,
+> for SystemStreams<'a, R> {
+    type Frontend = SystemFrontend<'a, R>;
+
+    fn into_frontend(self, guard: Option<Guard>, pace: Pace, valve: Valve) -> Self::Frontend {
+        let SystemStreams {
+            rt,
+            service,
+            streams,
+            standing,
+            reports,
+            watchdog,
+        } = self;
+        if guard.is_some() {
+            // A start counts as a sign of life.
+            let _ = rt.touch_guard(service.folder);
+        }
+        SystemFrontend {
+            rt,
+            service,
             streams,
             standing,
             reports,
@@ -107,55 +131,15 @@ impl<
             endpoint: None,
             pace,
             valve,
-        })
-    }
-
-    /// Stops listening, and waits a second at most for the last guard. It waits until the lines
-    /// have left, or for some seconds if a stream isn't read, and ends the program so. A server
-    /// that ended well ends with a fault if its output couldn't be printed.
-    pub fn finish(self, ending: Ending) -> Ending
-        ensures ends { EndsServing ending → EndsServing result }
-        ensures other { ending ≢ Ending.Ran → result ≡ ending }
-        ensures fault { IsFault ending → IsFault result }
-    {
-        let SystemFrontend {
-            rt,
-            service: _,
-            streams,
-            standing: _,
-            reports: _,
-            watchdog: _,
-            guard: _,
-            guarded,
-            endpoint,
-            pace: _,
-            valve: _,
-        } = self;
-        if let Some(endpoint) = endpoint {
-            endpoint.leave(&rt);
-        }
-        if let Some(guarded) = guarded {
-            let _ = guarded.recv_timeout(&rt, Duration::from_secs(PATIENCE_SECONDS));
-        }
-        match streams {
-            Some(streams) => streams.finish(&rt, ending),
-            None => ending,
         }
     }
 }
 
-impl<
-    'a,
-    R: Runtime
-        + Wait
-        + Clock
-        + LookUp
-        + Net<Listener = TcpListener, Stream = TcpStream>
-        + Copy
-        + Send
-        + 'static,
-    M: Method,
-> Frontend<M, FileDisk, Lines<R>> for SystemFrontend<'a, R> {
+impl<'a, R: Runtime + ThreadRuntime + Copy + Send + 'static, M: Method> Frontend<
+    M,
+    FileDisk,
+    Lines<R>,
+> for SystemFrontend<'a, R> {
     ghost use Rattle.std.specs.Prelude.{false, []};
 
     ghost known = { false };
@@ -182,6 +166,34 @@ impl<
     fn losses(&self) -> Losses {
         self.standing.losses()
     }
+
+    // Stops listening, and waits a second at most for the last guard. It waits until the lines
+    // have left, or for some seconds if a stream isn't read.
+    fn finish(self, ending: Ending) -> Ending {
+        let SystemFrontend {
+            rt,
+            service: _,
+            streams,
+            standing: _,
+            reports: _,
+            watchdog: _,
+            guard: _,
+            guarded,
+            endpoint,
+            pace: _,
+            valve: _,
+        } = self;
+        if let Some(endpoint) = endpoint {
+            endpoint.leave(&rt);
+        }
+        if let Some(guarded) = guarded {
+            let _ = guarded.recv_timeout(&rt, Duration::from_secs(PATIENCE_SECONDS));
+        }
+        match streams {
+            Some(streams) => streams.finish(&rt, ending),
+            None => ending,
+        }
+    }
 }
 
 type LetIn<R> = (
@@ -192,16 +204,10 @@ type LetIn<R> = (
 );
 
 // Lets the clients of an open world in, if there are threads for the lines of its server.
-fn let_in<
-    R: Wait
-        + Clock
-        + LookUp
-        + Net<Listener = TcpListener, Stream = TcpStream>
-        + Files<File = File>
-        + AllocGlobal
-        + Copy,
-    M: Method,
->(front: &SystemFrontend<'_, R>, world: &Opened<M, FileDisk>) -> Result<LetIn<R>, Ending>
+fn let_in<R: ThreadRuntime + Files<File = File> + AllocGlobal + Copy, M: Method>(
+    front: &SystemFrontend<'_, R>,
+    world: &Opened<M, FileDisk>,
+) -> Result<LetIn<R>, Ending>
     ensures { IfErr result IsFault }
 {
     let Some(streams) = &front.streams else {
@@ -234,9 +240,7 @@ fn lines_of<R: Wait + Clock + LookUp + Net + Files<File = File> + AllocGlobal + 
     let alloc = front.rt.alloc();
     let pulse = pulse_for(front, world)?;
     let files = kept_files(alloc, front.service.folder, &world.images, &world.log)?;
-    let Ok(files) = Arc::new(alloc, files) else {
-        return Err(Ending::Fault(Refusal::NoMemory));
-    };
+    let files = Arc::new(alloc, files).map_err(|_: _| AllocError)?;
     let (wake, woken) = bounded(alloc, 1)?;
     let (done, guarded) = bounded(alloc, 1)?;
     let (acked, guard) = guard_for(front, streams, world, &pulse)?;
@@ -314,9 +318,7 @@ fn guard_for<R: Wait + Clock + LookUp + Net + Files<File = File> + AllocGlobal +
     if let Err(error) = answer {
         streams.errors.print(rt, Line::GuardFailed(error));
     }
-    let Ok((out, acked)) = signal_pair(rt.alloc()) else {
-        return Err(Ending::Fault(Refusal::NoMemory));
-    };
+    let (out, acked) = signal_pair(rt.alloc())?;
     let keeper = GuardKeeper {
         folder: path_of(rt.alloc(), service.folder, "")?,
         heartbeat: Heartbeat::new(pulse.clone()?),
@@ -359,9 +361,7 @@ fn pulse_for<R: Wait + Clock + Net + Files + AllocGlobal + Copy, M: Method>(
     if front.reports.is_none() && !is_guarded(front) {
         return Ok(None);
     }
-    let Ok(pulse) = Arc::new(front.rt.alloc(), pulse_of(world)) else {
-        return Err(Ending::Fault(Refusal::NoMemory));
-    };
+    let pulse = Arc::new(front.rt.alloc(), pulse_of(world)).map_err(|_: _| AllocError)?;
     if let Some(reports) = &front.reports {
         let _ = reports.try_send(&front.rt, pulse.clone()?);
     }
@@ -372,19 +372,10 @@ type Started = (Streams, Option<Sender<Arc<Pulse, Global>>>, Sender<Watched>);
 
 // Starts the threads of the streams, the one that prints figures if they are asked for, and the one
 // that looks at the server.
-fn start_threads<
-    R: Threads
-        + Wait
-        + Clock
-        + Net<Listener = TcpListener, Stream = TcpStream>
-        + LookUp
-        + Print
-        + Eprint
-        + AllocGlobal
-        + Copy
-        + Send
-        + 'static,
->(rt: &R, service: &Service<'_>) -> Result<Started, NotStarted> {
+fn start_threads<R: Runtime + ThreadRuntime + Copy + Send + 'static>(
+    rt: &R,
+    service: &Service<'_>,
+) -> Result<Started, NotStarted> {
     let streams = Streams::start(rt, service)?;
     let reports = match service.report {
         0 => None,
@@ -402,7 +393,13 @@ fn listen<R: Net<Listener = TcpListener, Stream = TcpStream> + Files<File = File
     ensures { IfErr result IsFault }
 {
     let (listener, endpoint) = match address {
-        Address::Port(port) => listen_at_port(rt, port)?,
+        Address::Port(port) => match LocalPort(port).listen(rt) {
+            Ok((listener, chosen)) => (listener, Endpoint::Port(chosen)),
+            Err(error) => {
+                let failed = NoPort { port, error };
+                return Err(Ending::Server(ServerEnding::NoPort(failed)));
+            }
+        },
         Address::Socket { path, mode } => {
             let (listener, file) = blame(rt.alloc(), "", path, listen_at(rt, path, mode))?;
             (listener, Endpoint::Socket(file))
@@ -415,29 +412,4 @@ fn listen<R: Net<Listener = TcpListener, Stream = TcpStream> + Files<File = File
             Err(Ending::Fault(Refusal::NoMemory))
         }
     }
-}
-
-// A listener at a port of this machine.
-fn listen_at_port<R: Net<Listener = TcpListener, Stream = TcpStream>>(
-    rt: &R,
-    port: u16,
-) -> Result<(Listener, Endpoint), Ending>
-    ensures { IfErr result IsFault }
-{
-    let address = SocketAddr::from((Ipv4Addr::LOCALHOST, port));
-    let bound = TcpListener::bind(rt, address);
-    let listener = match bound {
-        Ok(listener) => listener,
-        Err(error) => return Err(no_port(port, error)),
-    };
-    match listener.local_addr() {
-        Ok(address) => Ok((Listener::Tcp(listener), Endpoint::Port(address))),
-        Err(error) => Err(no_port(port, error)),
-    }
-}
-
-fn no_port(port: u16, error: io::Error) -> Ending
-    ensures { IsFault result }
-{
-    Ending::Server(ServerEnding::NoPort(NoPort { port, error }))
 }

@@ -6,20 +6,18 @@ use crate::guarding::GuardKeeper;
 use crate::kept::KeptFile;
 use crate::line::Line;
 use crate::printer::Printer;
-use crate::runtime::LookUp;
+use crate::runtime::{LookUp, ThreadRuntime};
 use crate::standing::{Standing, is_left_for_images, passed_since};
 use crossbeam_channel::{Receiver, RecvTimeoutError, Sender, bounded};
 use disk_model::{FourFiles, WorldFile};
-use file_disk::Valve;
+use file_disk::{Valve, lock};
 use std::alloc::Global;
 use std::fs::File;
 use std::io;
-use std::net::{Net, TcpListener, TcpStream};
 use std::sync::{Arc, Wait};
 use std::thread::{self, Threads};
 use std::time::{Clock, Duration, Instant};
 use worker_threads::NotStarted;
-use world_folder::lock;
 
 /// How long it waits before it looks again, unless it is woken.
 const PATIENCE_MILLISECONDS: u64 = 500;
@@ -53,16 +51,10 @@ pub struct Watched {
 /// Starts a thread that waits for a server on the returned channel, and then looks at it twice a
 /// second. It names the files that were removed or replaced. It wakes a server that is to be left
 /// from its wait for clients. It ends then, or with the server.
-pub fn start_watchdog<
-    R: Threads
-        + Wait
-        + Clock
-        + Net<Listener = TcpListener, Stream = TcpStream>
-        + LookUp
-        + Copy
-        + Send
-        + 'static,
->(rt: &R, alloc: Global) -> Result<Sender<Watched>, NotStarted> {
+pub fn start_watchdog<R: Threads + ThreadRuntime + Copy + Send + 'static>(
+    rt: &R,
+    alloc: Global,
+) -> Result<Sender<Watched>, NotStarted> {
     let (to, begins) = bounded::<Watched, _>(alloc, 1)?;
     let here = *rt;
     let run = move || {
@@ -76,10 +68,7 @@ pub fn start_watchdog<
     }
 }
 
-fn watch<R: Wait + Clock + Net<Listener = TcpListener, Stream = TcpStream> + LookUp>(
-    rt: &R,
-    watched: Watched,
-) {
+fn watch<R: ThreadRuntime>(rt: &R, watched: Watched) {
     let mut watched = watched;
     let patience = Duration::from_millis(PATIENCE_MILLISECONDS);
     for _ in rt.forever() {

@@ -34,8 +34,8 @@ use std::time::Clock;
 use streams::run_steps;
 use world_actions::Refusal;
 use world_folder::{
-    Ending, Exit, StandardStream, StreamFailure, SystemFolder, blame, create, create_of_words,
-    guarded,
+    Ending, Exit, FirstWords, StandardStream, StreamFailure, SystemFolder, blame, create,
+    create_of_words, guarded,
 };
 use world_reports::{back_up, inspect, recover, salvage_world, status};
 use world_server::serve;
@@ -80,12 +80,12 @@ fn run<R: Input + Print + Eprint + Clock + Files<File = File> + AllocGlobal + Cl
             folder,
             cells,
             guards,
-        } => guarded(
-            rt,
-            folder,
-            guards,
-            Ending::of_command(create(&mut SystemFolder::new(rt, folder), cells)),
-        ),
+        } => {
+            let mut system = SystemFolder::new(rt, folder);
+            let made = create(&mut system, FirstWords::Zeros(cells));
+            let ending = Ending::of_command(made.map_err(|failed: _| failed.ending));
+            guarded(rt, folder, guards, ending)
+        }
         Invocation::CreateOfWords {
             folder,
             words,
@@ -94,7 +94,8 @@ fn run<R: Input + Print + Eprint + Clock + Files<File = File> + AllocGlobal + Cl
         } => {
             let mut system = SystemFolder::new(rt, folder);
             let made = create_of_words(rt, &mut system, words, asked);
-            guarded(rt, folder, guards, Ending::of_command(made))
+            let ending = Ending::of_command(made.map_err(|failed: _| failed.ending));
+            guarded(rt, folder, guards, ending)
         }
         Invocation::Recover { folder, on_loss } => {
             Ending::of_either(recover(&mut SystemFolder::new(rt, folder), on_loss))

@@ -215,7 +215,9 @@ fn check_turns<M: Method, D: Disk + Drop>(
         mut mutator,
         mut checkpointer,
         mut log_writer,
-    } = Together::begin(rt, alloc, open_gates(), opened, asked, 1).expect(rt, "memory");
+    } = Together::begin(rt, alloc, open_gates(), opened, asked, 1)
+        .ok()
+        .expect(rt, "memory");
     take_turns(
         rt,
         alloc,
@@ -263,7 +265,9 @@ fn start_workers<R: Threads + Wait + Abort + Copy + Send + 'static, M: Method + 
     let files = empty_files(alloc).expect(rt, "memory");
     let opened = open_world::<M, ModelFile>(rt, alloc, files);
     let spins = Spins::on_this_machine(rt, alloc).expect(rt, "memory");
-    start(rt, alloc, open_gates(), Deaf, opened, 64, spins).expect(rt, "workers")
+    start(rt, alloc, open_gates(), Deaf, opened, 64, &spins)
+        .ok()
+        .expect(rt, "workers")
 }
 
 // Stops workers, and brings their ends together.
