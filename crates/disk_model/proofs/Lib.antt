@@ -5,3 +5,4 @@ pub mod ModelFileLemmas
 pub mod TornLemmas
 pub mod LeavingLemmas
 pub mod FaultLemmas
+pub mod FilledLemmas

@@ -30,6 +30,10 @@ Within old new = (left : List ℕ) → new left → old left
 abbrev pub Only : List ℕ → (List ℕ → Type 0) → Type 0
 Only file outcomes = (left : List ℕ) → outcomes left → left ≡ file
 
+-- each outcome of a crash has a byte
+abbrev pub HasByte : (List ℕ → Type 0) → Type 0
+HasByte outcomes = (left : List ℕ) → outcomes left → 1 ≤ length left
+
 -- the last value of a count of faults
 abbrev pub last_count : ℕ
 last_count = 2 ^ 64 - 1

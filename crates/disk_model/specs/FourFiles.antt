@@ -1,9 +1,9 @@
 -- The four files of a world, and the effect of reading on files.
 use Rattle.std.specs.Prelude.{◌≡◌, ℕ, ◌+◌, ◌<◌, min, List, [], ◌∷◌, length, Result, Err}
-use Rattle.std.specs.Prelude.{slice_index, slice_set}
+use Rattle.std.specs.Prelude.{slice_index, slice_set, Bool, IsTrue}
 use Rattle.world_actions.specs.declared.refusal.Refusal.{Refusal}
 use Rattle.world_actions.specs.declared.refusal.Refusal.TheVariants.{Device}
-use Rattle.disk_model.specs.Disk.{last_count, Within}
+use Rattle.disk_model.specs.Disk.{last_count, Within, HasByte, Call}
 use Rattle.disk_model.specs.declared.disk.Disk.{Ghosts}
 use Rattle.disk_model.specs.declared.four_files.FourFiles.{FourFiles}
 use Rattle.disk_model.specs.declared.world_file.WorldFile.{WorldFile}
@@ -54,6 +54,16 @@ pub record EachFile {A B : Type 0} (firsts : FourFiles A) (seconds : FourFiles B
 pub record KeepsFile {D : Type 0} (disk : Ghosts D) (old new : D) : Type 0 where
   pub same_content : disk.content new ≡ disk.content old
   pub crash : Within (disk.may_leave old) (disk.may_leave new)
+
+-- if no crash could leave the file empty before, none can now
+abbrev pub StaysFilled : {D : Type 0} → Ghosts D → (old new : D) → Type 0
+StaysFilled disk old new = HasByte (disk.may_leave old) → HasByte (disk.may_leave new)
+
+-- no call empties a file of an honest disk
+abbrev pub CallsFill : {D : Type 0} → Ghosts D → Type 0
+CallsFill {D} disk =
+    (old new : D) (call : Call) (succeeded : Bool) → IsTrue disk.honest
+    → disk.called old call succeeded new → StaysFilled disk old new
 
 -- the count of faults after calls of which only the last one may have failed; a refusal for lack of
 -- memory isn't counted

@@ -2,7 +2,8 @@
 use Rattle.std.specs.Prelude.{◌≡◌, ℕ, zero, suc, ◌+◌, min, Bool, false, Option, Some, None, refl}
 use Rattle.std.specs.Prelude.{if◌then◌else◌}
 use Rattle.std.specs.Coded.{Coded, code_by, coded×, coded_ℕ, coded_option}
-use Rattle.disk_model.specs.Disk.{last_count, Call, Write}
+use Rattle.std.proofs.Common.{subst, sym, ◌∙◌}
+use Rattle.disk_model.specs.Disk.{last_count, Call, Length, Read, Write, Sync}
 
 -- the disk below, the number of calls that pass before the one that fails, and the number of calls
 -- that the fuse failed
@@ -53,3 +54,23 @@ module _ {D : Type 0} where
     pub counts : new.left ≡ counted_down old.left
     pub due : IsDue old → (succeeded ≡ false) × Fails called old call new
     pub passed : ¬ IsDue old → called old.inner call succeeded new.inner × (new.faults ≡ old.faults)
+
+-- what each call of a disk keeps, a call of the disk with a fuse keeps
+module _ {D : Type 0} (called : D → Call → Bool → D → Type 0) (P : D → Type 0)
+    (keeps : (old new : D) (call : Call) (succeeded : Bool) → called old call succeeded new
+    → P old → P new) where
+  keeps_by : (left : Option ℕ) (old new : Fuse D) (call : Call) (succeeded : Bool)
+      → old.left ≡ left → CallsThrough called old call succeeded new → P old.inner → P new.inner
+  keeps_by (Some zero) old new (Write at bytes) succeeded due is =
+      let fails = (is.due due).1 in
+      keeps old.inner new.inner (Write at bytes) fails.0 fails.1
+  keeps_by (Some zero) old new Length succeeded due is = subst P (sym (is.due due).1.0)
+  keeps_by (Some zero) old new (Read at n) succeeded due is = subst P (sym (is.due due).1.0)
+  keeps_by (Some zero) old new Sync succeeded due is = subst P (sym (is.due due).1.0)
+  keeps_by left old new call succeeded isnt is =
+      let passed = (is.passed (λ due. let no = sym isnt ∙ due in cc)).0 in
+      keeps old.inner new.inner call succeeded passed
+
+  pub keeps_through : (old new : Fuse D) (call : Call) (succeeded : Bool)
+      → CallsThrough called old call succeeded new → P old.inner → P new.inner
+  keeps_through old new call succeeded = keeps_by old.left old new call succeeded refl

@@ -1,7 +1,7 @@
 ghost use Rattle.std.specs.Prelude.{◌≡◌, ◌+◌, ◌≤◌, Bool, List, ℕ, IsTrue, length, take, drop, IfOk};
 ghost use Rattle.std.specs.Prelude.{OnOk, OnErr, is_ok};
 ghost use Rattle.file_format.specs.Number.{IsBytes};
-ghost use Rattle.disk_model.specs.Disk.{overwritten, Torn, Follows, Only, Within, counted};
+ghost use Rattle.disk_model.specs.Disk.{overwritten, Torn, Follows, Only, Within, HasByte, counted};
 ghost use Rattle.disk_model.specs.Disk.{IsDeviceFault, last_count, Call, Length, Read, Write, Sync};
 
 use world_actions::Refusal;
@@ -76,6 +76,10 @@ pub trait Disk {
     /// A crash leaves bytes, so reads give bytes too.
     ghost are_bytes: { (disk : Self) (left : List ℕ) → IsTrue Self.honest → may_leave disk left
         → IsBytes left };
+
+    /// No call empties a file: if each outcome of a crash had a byte, it still has one.
+    ghost keeps_byte: { (old new : Self) (call : Call) (succeeded : Bool) → IsTrue Self.honest
+        → called old call succeeded new → HasByte (may_leave old) → HasByte (may_leave new) };
 
     /// The count is at most its bound.
     ghost few_faults: { (disk : Self) → faults disk ≤ last_count };

@@ -1,8 +1,8 @@
 ghost use Rattle.std.specs.Prelude.{◌≤◌, ◌↔◌, ◌≡◌, ◌+◌, ◌-◌, Err, IsTrue, Some, None, Result};
 ghost use Rattle.std.specs.Prelude.{Option};
-ghost use Rattle.disk_model.specs.Disk.{min-last_count};
+ghost use Rattle.disk_model.specs.Disk.{min-last_count, HasByte};
 ghost use Rattle.disk_model.specs.Fused.{Fuse, counted_down, IsDue, fault_count, more_faults};
-ghost use Rattle.disk_model.specs.Fused.{CallsThrough};
+ghost use Rattle.disk_model.specs.Fused.{CallsThrough, keeps_through};
 
 use crate::Disk;
 use std::marker::Model;
@@ -116,6 +116,11 @@ impl<D: Disk> Disk for Fused<D> {
     ghost stays = { λ disk is_honest. D.stays disk.inner is_honest };
 
     ghost are_bytes = { λ disk left is_honest. D.are_bytes disk.inner left is_honest };
+
+    ghost keeps_byte = { λ old new call succeeded is_honest.
+        keeps_through D.called (λ disk. HasByte (D.may_leave disk))
+        (λ old new call succeeded. D.keeps_byte old new call succeeded is_honest)
+        old new call succeeded };
 
     ghost few_faults = { λ disk. min-last_count (D.faults disk.inner + disk.faults) };
 

@@ -5,7 +5,7 @@ ghost use Rattle.disk_model.specs.Disk.{Within, Only, counted, IsDeviceFault, Wr
 ghost use Rattle.disk_model.specs.FileState.{IsUncertain, IsSynced, Writes, Syncs, after_fault};
 ghost use Rattle.disk_model.specs.FileState.{Calls};
 ghost use Rattle.disk_model.specs.FileKept.{IsKept};
-ghost use Rattle.disk_model.specs.CrashOutcome.{IsCrashOutcome, content_stays};
+ghost use Rattle.disk_model.specs.CrashOutcome.{IsCrashOutcome, content_stays, calls_keep_byte};
 
 use crate::Disk;
 use crate::places::{clear_from, copy_from, grow, write_marked};
@@ -171,6 +171,8 @@ impl Disk for ModelFile {
     ghost stays = { λ file _. content_stays file };
 
     ghost are_bytes = { λ file left _ outcome. outcome.are_bytes };
+
+    ghost keeps_byte = { λ old new call succeeded _. calls_keep_byte old new call succeeded };
 
     ghost few_faults = { λ file. min-last_count file.faults };
 
