@@ -1,8 +1,9 @@
 -- The header and the words of a target, and the opening of its gate.
+use Rattle.std.proofs.Common.{rules}
 use Rattle.std.proofs.Common.{◌≡◌, ◌⊎◌, inl, inr, ⊎_elim, Some, ℕ, zero, suc, ◌+◌, ◌-◌, ◌^◌, ◌<◌, ◌≤◌, List, [], ◌∷◌, ◌++◌}
 use Rattle.std.proofs.Common.{IsTrue, length, get_or, take, drop, refl, sym, ◌∙◌, ap, subst, arith, length-append}
 use Rattle.std.proofs.lemmas.List.{append-nil, append_assoc, drop-drop, length-take}
-use Rattle.std.specs.Prelude.{Result, Ok, Err, OnOk, OnErr}
+use Rattle.std.specs.Prelude.{Result, OnOk, OnErr}
 use Rattle.std.specs.List.{list_all}
 use Rattle.world_actions.specs.declared.refusal.Refusal.{Refusal}
 use Rattle.disk_model.specs.Disk.{Torn, Follows, Within, Only, overwritten}
@@ -13,15 +14,13 @@ use Rattle.file_format.specs.Format.{marked_of, unmarked, marked_in}
 use Rattle.file_format.proofs.FormatLemmas.{unmarked-marked_of}
 use Rattle.file_format.specs.Number.{number_of, number_bytes}
 use Rattle.file_format.proofs.NumberLemmas.{length-number_bytes}
-use Rattle.capture_core.specs.declared.taker.Taken.{Taken}
 use Rattle.image_files.specs.declared.answer.ImageAnswer.{ImageAnswer}
 use Rattle.image_files.specs.declared.answer.ImageAnswer.TheVariants as answer
 use Rattle.image_files.specs.declared.phase.Phase.{Phase}
 use Rattle.image_files.specs.declared.phase.Phase.TheVariants.{Header, Taking, Opening, OpeningSync, Down}
-use Rattle.image_files.specs.Image.{Image, image_of, header_bytes, cells_of, cells_in, tick_in, number_at, words_from, is_word}
-use Rattle.image_files.specs.Taken.{filled_words}
+use Rattle.image_files.specs.Image.{Image, image_of, header_bytes, cells_in, tick_in, number_at, words_from, is_word}
 use Rattle.image_files.specs.Images.{IsTarget}
-use Rattle.image_files.specs.Progress.{Progress, IsInOrder, PhaseFits, done, newest_words, opened_keeper}
+use Rattle.image_files.specs.Progress.{Progress, IsInOrder, PhaseFits, done, opened_keeper}
 use Rattle.image_files.specs.Keeper.{HasBody, Fits, TargetFits, TargetEndures, Endures}
 use Rattle.image_files.specs.Steps.{IsOpenedImage, IfOpened}
 use Rattle.image_files.proofs.WordLemmas.{number_written, length-words_from}
@@ -59,8 +58,7 @@ module _ (xs ys : List ℕ) (same : drop 1 xs ≡ drop 1 ys) where
 
 -- the words so far don't depend on the phase and the gate
 pub done_behind : (keeper : Progress) (phase : Phase) (old new newest : List ℕ) → drop 1 new ≡ drop 1 old → done (record keeper { phase = phase }) new newest ≡ done keeper old newest
-done_behind keeper phase old new newest same =
-    ap (λ (l : List ℕ). l ++ filled_words keeper.chunk (drop keeper.written (newest_words keeper newest))) (words_behind new old same 17 keeper.written (omega arith))
+done_behind keeper phase old new newest same = search (rules, words_behind)
 
 -- ---- the phase
 
@@ -123,16 +121,14 @@ header_written keeper old new newest bytes phase shut is bytes_are fits =
 
 -- no cell is left to be written
 pub done_whole : (keeper : Progress) (target newest : List ℕ) → keeper.chunk ≡ [] → done keeper target newest ≡ words_from target 17 keeper.written
-done_whole keeper target newest none =
-    ap (λ (l : List Taken). words_from target 17 keeper.written ++ filled_words l (drop keeper.written (newest_words keeper newest))) none ∙ append-nil (words_from target 17 keeper.written)
+done_whole keeper target newest none = search (rules, append-nil)
 
 pub length_done : (keeper : Progress) (target newest : List ℕ) → keeper.written ≡ keeper.cells → keeper.chunk ≡ [] → length (done keeper target newest) ≡ keeper.cells
 length_done keeper target newest all none = ap length (done_whole keeper target newest none) ∙ length-words_from target 17 keeper.written ∙ all
 
 -- the number of cells that the header has
 body_cells : (keeper : Progress) (file : List ℕ) → IsInOrder keeper → HasBody keeper file → cells_in file ≡ Some keeper.cells
-body_cells keeper file order body =
-    ap cells_of (body.mark ∙ sym (unmarked-marked_of Second keeper.cells (omega (arith, order.most)))) ∙ cells_found Second (marked_of Second keeper.cells) keeper.cells refl order.some order.most
+body_cells keeper file order body = search (rules, cells_found, unmarked-marked_of)
 
 -- an open gate over a whole body is an image
 pub body_reads : (keeper : Progress) (file : List ℕ) → IsInOrder keeper → get_or file 0 0 ≡ 1 → HasBody keeper file → keeper.written ≡ keeper.cells
@@ -183,10 +179,7 @@ module _ (keeper : Progress) (old newest : List ℕ) (phase : keeper.phase ≡ O
   module _ (new : List ℕ) (same : drop 1 new ≡ drop 1 old) (before after : List ℕ → Type 0)
       (follows : Follows (Torn 0 1) before after) (read : Image) (stood : TargetEndures keeper.phase keeper read old newest before) where
     left_so : (left : List ℕ) → after left → (image_of left ≡ Image.Closed) ⊎ (image_of left ≡ Image.Open keeper.tick (done keeper old newest))
-    left_so left outcome =
-        let only = subst (λ (p : Phase). TargetEndures p keeper read old newest before) phase stood in
-        let from = follows left outcome in
-        gate_outcome left (subst (λ (f : List ℕ). Torn 0 1 f left) (only from.0 from.1) from.2)
+    left_so left outcome = search (rules, gate_outcome)
 
     pub opening_endures : TargetEndures OpeningSync (record keeper { phase = OpeningSync }) read new newest after
     opening_endures left outcome =
@@ -200,11 +193,7 @@ module _ (keeper : Progress) (old newest : List ℕ) (phase : keeper.phase ≡ O
 -- if the open gate can't be made durable, a crash leaves a closed file or the whole image
 pub opened_down : (keeper : Progress) (old newest : List ℕ) → keeper.phase ≡ OpeningSync → Fits keeper old newest → (new : List ℕ) → new ≡ old → (before after : List ℕ → Type 0) → Within before after
     → (read : Image) → TargetEndures keeper.phase keeper read old newest before → TargetEndures Down (record keeper { phase = Down }) read new newest after
-opened_down keeper old newest phase fits new same before after within read stood left outcome =
-    let order = in_phase keeper fits.in_order phase in
-    let was = subst (λ (p : Phase). TargetEndures p keeper read old newest before) phase stood in
-    subst (λ (words : List ℕ). IsTarget keeper.cells read (Some (record { tick = keeper.tick; taken = words })) (image_of left)) (sym (done_behind keeper Down old new newest (ap (drop 1) same)))
-    (inr (⊎_elim (λ closed. inl closed) (λ is. inr (is, length_done keeper old newest order.0 order.1)) (was left (within left outcome))))
+opened_down keeper old newest phase fits new same before after within read stood left outcome = search (rules, done_behind, in_phase, length_done, order)
 
 -- if it is made durable, the image is opened, and the files have exchanged their parts
 module _ (keeper : Progress) (old newest : List ℕ) (phase : keeper.phase ≡ OpeningSync) (fits : Fits keeper old newest) (new : List ℕ) (same : new ≡ old) where
@@ -218,15 +207,7 @@ module _ (keeper : Progress) (old newest : List ℕ) (phase : keeper.phase ≡ O
   opened_reads = ap image_of same ∙ body_reads keeper old fits.in_order opened_target.0 opened_target.1 opened_order.0
 
   pub opened_fits : Fits (opened_keeper keeper) newest new
-  opened_fits =
-      let words : words_from old 17 keeper.written ≡ words_from new 17 keeper.cells = ap (words_from old 17) opened_order.0 ∙ ap (λ (l : List ℕ). words_from l 17 keeper.cells) (sym same) in
-      record {
-        in_order = record { some = fits.in_order.some; most = fits.in_order.most; ticks = fits.in_order.ticks; within = fits.in_order.within; by_phase = tt };
-        image = opened_reads ∙ ap (Image.Open keeper.tick) words;
-        newest_shut = λ shut. absurd (cc shut);
-        of_target = fits.newest_shut;
-        chunk = fits.chunk;
-      }
+  opened_fits = search (rules, opened_order, opened_reads)
 
   pub opened_image : (after : List ℕ → Type 0) → Only old after → (tick : ℕ) → tick ≡ keeper.tick → IsOpenedImage keeper (done keeper old newest) new after tick
   opened_image after only tick of_the_round = record {
@@ -250,12 +231,10 @@ opened_endures keeper old newest new words before beside after tick read image s
 
 -- facts of a call that succeeded, or of one that failed
 pub on_ok : {T E P Q : Type 0} (r : Result T E) → (P → Q) → OnOk r P → OnOk r Q
-on_ok (Ok value) f is = f is
-on_ok (Err error) f is = tt
+on_ok b f is = search rules
 
 pub on_err : {T E P Q : Type 0} (r : Result T E) → (P → Q) → OnErr r P → OnErr r Q
-on_err (Ok value) f is = tt
-on_err (Err error) f is = f is
+on_err b f is = search rules
 
 -- the claim of a known phase
 pub claim_at : {keeper : Progress} {phase : Phase} {before : Image} {file newest : List ℕ} {outcomes beside : List ℕ → Type 0} → keeper.phase ≡ phase
@@ -267,13 +246,7 @@ claim_at {keeper = keeper} {before = before} {file = file} {newest = newest} {ou
 module _ (call : Result (Unit {0}) Refusal) (given : ImageAnswer) (old new : Progress) (next : Phase)
     (ok : OnOk call ((given ≡ answer.Working) × (new ≡ record old { phase = next }))) (failed : OnErr call ((given ≡ answer.Down) × (new ≡ record old { phase = Down }))) where
   pub followed : (P : Progress → Type 0) (Q : Type 0) → OnOk call (P (record old { phase = next })) → OnErr call (P (record old { phase = Down })) → IfOpened given Q (P new)
-  followed P Q = by_call call ok failed
-    where
-      by_call : (r : Result (Unit {0}) Refusal) → OnOk r ((given ≡ answer.Working) × (new ≡ record old { phase = next }))
-          → OnErr r ((given ≡ answer.Down) × (new ≡ record old { phase = Down }))
-          → OnOk r (P (record old { phase = next })) → OnErr r (P (record old { phase = Down })) → IfOpened given Q (P new)
-      by_call (Ok _) done failed one other = subst (λ (g : ImageAnswer). IfOpened g Q (P new)) (sym done.0) (subst P (sym done.1) one)
-      by_call (Err _) done failed one other = subst (λ (g : ImageAnswer). IfOpened g Q (P new)) (sym failed.0) (subst P (sym failed.1) other)
+  followed b d = search rules
 
   -- the newest image's file stays
   pub follow_endures : (file_after : List ℕ) (outcomes_after : List ℕ → Type 0) {before : Image} {file newest : List ℕ} {outcomes beside : List ℕ → Type 0}

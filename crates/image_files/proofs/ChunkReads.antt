@@ -1,5 +1,6 @@
 -- The read of a chunk from the newest image.
-use Rattle.std.proofs.Common.{◌≡◌, ℕ, zero, suc, ◌+◌, ◌-◌, ◌*◌, ◌≤◌, List, [], ◌∷◌, ◌++◌, Bool, Option, Some, None, true, false, ◌&&◌, length, take, drop, refl, sym, ◌∙◌, ap, subst, arith}
+use Rattle.std.proofs.Common.{rules}
+use Rattle.std.proofs.Common.{◌≡◌, ℕ, zero, suc, ◌+◌, ◌-◌, ◌*◌, ◌≤◌, List, [], ◌∷◌, ◌++◌, Bool, Option, true, false, ◌&&◌, length, take, drop, refl, sym, ◌∙◌, ap, subst, arith}
 use Rattle.std.proofs.lemmas.List.{take-take, drop-drop, drop-take, drop_at, length-map}
 use Rattle.std.proofs.lemmas.List.Folds.{list_all-append}
 use Rattle.std.specs.Prelude.{is_some, map, IfSome}
@@ -36,9 +37,7 @@ words_shift xs ys a p (suc n) m same inside long_x long_y =
         sym (drop-take a 8 l) ∙ ap (drop a) (sym (take-take (a + 8) m l inside_a)) ∙ drop-take a 8 (take m l)
 
 pub words_read : (xs ys : List ℕ) (p n : ℕ) → take (8 * n) xs ≡ take (8 * n) (drop p ys) → 8 * n ≤ length xs → p + 8 * n ≤ length ys → words_from xs 0 n ≡ words_from ys p n
-words_read xs ys p n same long_x long_y =
-    let at : p + 0 ≡ p = omega arith in
-    words_shift xs ys 0 p n (8 * n) same (omega arith) long_x long_y ∙ ap (λ (q : ℕ). words_from ys q n) at
+words_read xs ys p n same long_x long_y = search (rules, words_shift)
 
 -- ---- cells with words of their own
 
@@ -74,8 +73,7 @@ limit_filled (Same ∷ cells) (x ∷ old) small known =
 
 image_in : (newest : Option (Slot × ℕ)) (file words : List ℕ) → IfSome newest (λ image. image_of file ≡ Image.Open image.1 words)
     → is_some newest ≡ true → (tick : ℕ) × (image_of file ≡ Image.Open tick words)
-image_in None file words is some = absurd (cc some)
-image_in (Some image) file words is some = (image.1, is)
+image_in b file words is some = search rules
 
 -- the newest image's file has room for its words, and cells may hold these
 newest_file : (keeper : Progress) (target newest : List ℕ) → Fits keeper target newest → is_some keeper.newest ≡ true
@@ -99,17 +97,7 @@ read keeper chunk = record keeper { phase = Writing; chunk = chunk }
 
 -- whatever was read, no cell's word is the newest image's any more
 pub read_in_order : (keeper : Progress) (words : List ℕ) → IsInOrder keeper → keeper.phase ≡ Reading → IsInOrder (read keeper (map (λ (word : ℕ). Word word) (filled_words keeper.chunk words)))
-read_in_order keeper words order phase =
-    let reading = in_phase keeper order phase in
-    let count : length (map (λ (word : ℕ). Word word) (filled_words keeper.chunk words))
-    ≡ length keeper.chunk = length-map (filled_words keeper.chunk words) (λ (word : ℕ). Word word) ∙ length-filled_words keeper.chunk words in
-    record {
-      some = order.some;
-      most = order.most;
-      ticks = order.ticks;
-      within = omega (arith, order.within, count);
-      by_phase = (count ∙ reading.0, reading.1, λ some. same_map (filled_words keeper.chunk words));
-    }
+read_in_order keeper words order phase = search (rules, in_phase, length-filled_words, length-map, same_map)
 
 module _ (keeper : Progress) (target newest : List ℕ) (phase : keeper.phase ≡ Reading) (fits : Fits keeper target newest) where
   order : PhaseFits Reading keeper
@@ -140,10 +128,7 @@ module _ (keeper : Progress) (target newest : List ℕ) (phase : keeper.phase �
   old_words = rw (order.2) (ap (drop keeper.written) parts ∙ drop_at (words_from newest 17 keeper.written) (here ++ behind) keeper.written (length-words_from newest 17 keeper.written))
 
   pub read_done : done (read keeper (read_cells keeper newest)) target newest ≡ done keeper target newest
-  read_done =
-      let old : filled_words keeper.chunk (drop keeper.written (newest_words keeper newest)) ≡ filled_words keeper.chunk here =
-      ap (filled_words keeper.chunk) old_words ∙ filled_words-front keeper.chunk here behind (length-words_from newest place (length keeper.chunk)) in
-      ap (λ (l : List ℕ). words_from target 17 keeper.written ++ l) (filled_words-map (filled_words keeper.chunk here) (drop keeper.written (newest_words keeper newest)) ∙ sym old)
+  read_done = search (rules, filled_words-front, filled_words-map, length-words_from, old_words)
 
   pass : list_all is_word here ≡ true
   pass =

@@ -1,5 +1,6 @@
 -- The write of a chunk.
-use Rattle.std.proofs.Common.{◌≡◌, inl, inr, ℕ, zero, suc, ◌+◌, ◌*◌, ◌<◌, ◌≤◌, List, [], ◌∷◌, ◌++◌, true, false, ◌==◌, length, get_or, take, drop, refl, sym, ◌∙◌, ap, subst, arith, length-append}
+use Rattle.std.proofs.Common.{rules}
+use Rattle.std.proofs.Common.{◌≡◌, inl, inr, ℕ, zero, suc, ◌+◌, ◌*◌, ◌<◌, ◌≤◌, List, [], ◌∷◌, ◌++◌, true, false, ◌==◌, length, take, drop, refl, sym, ◌∙◌, ap, subst, arith, length-append}
 use Rattle.std.proofs.lemmas.List.{append_assoc, append-nil, length-take, take-take, get_or-take, take_at, drop-take}
 use Rattle.std.proofs.lemmas.List.Folds.{list_all-append}
 use Rattle.std.proofs.lemmas.Bool.{cases_Bool}
@@ -48,8 +49,7 @@ same_words (Word w ∷ cells) a b none = ap (λ (l : List ℕ). w ∷ l) (same_w
 same_words (Same ∷ cells) a b none = absurd (cc none)
 
 drop_nil : (n : ℕ) → drop {A = ℕ} n [] ≡ []
-drop_nil zero = refl
-drop_nil (suc n) = refl
+drop_nil b = search rules
 
 filled_own : (keeper : Progress) (newest : List ℕ) → (is_some keeper.newest ≡ true → has_same keeper.chunk ≡ false)
     → filled_words keeper.chunk (drop keeper.written (newest_words keeper newest)) ≡ filled_words keeper.chunk []
@@ -101,22 +101,13 @@ module _ (keeper : Progress) (old newest : List ℕ) (phase : keeper.phase ≡ W
   kept = ap (λ (l : List ℕ). take at l) parts ∙ take_at (take at old) (bytes ++ rest) at front
 
   words_after : words_from new 17 (keeper.written + length keeper.chunk) ≡ words_from old 17 keeper.written ++ words
-  words_after =
-      let count : length words ≡ length keeper.chunk = length-filled_words keeper.chunk [] in
-      words_from-append new 17 keeper.written (length keeper.chunk)
-      ∙ ap (λ (l : List ℕ). l ++ words_from new at (length keeper.chunk)) (words_before new old at 17 keeper.written kept (omega arith) (omega (arith, long)) (omega (arith, body.room)))
-      ∙ ap (λ (l : List ℕ). words_from old 17 keeper.written ++ l)
-      (ap (words_from new at) (sym count) ∙ ap (λ (l : List ℕ). words_from l at (length words)) parts ∙ words_written (take at old) words rest at front fits.chunk)
+  words_after = search (rules, body, front, kept, length-filled_words, long, parts, words_before, words_from-append, words_written)
 
   pub chunk_done : done (with_chunk_written keeper) new newest ≡ done keeper old newest
-  chunk_done =
-      append-nil (words_from new 17 (keeper.written + length keeper.chunk)) ∙ words_after ∙ ap (λ (l : List ℕ). words_from old 17 keeper.written ++ l) (sym (filled_own keeper newest order.2))
+  chunk_done = search (rules, append-nil, filled_own, order, words_after)
 
   shut_after : HasShutGate new
-  shut_after =
-      let shut = target.0 in
-      let same : get_or new 0 0 ≡ get_or old 0 0 = sym (get_or-take at new 0 0 (omega arith)) ∙ ap (λ (l : List ℕ). get_or l 0 0) kept ∙ get_or-take at old 0 0 (omega arith) in
-      (omega (arith, long), λ is_open. shut.1 (sym same ∙ is_open))
+  shut_after = search (rules, get_or-take, kept, long, target)
 
   abbrev after : Phase → Progress
   after next = record keeper { phase = next; chunk = []; written = keeper.written + length keeper.chunk }
@@ -146,9 +137,7 @@ module _ (keeper : Progress) (old newest : List ℕ) (phase : keeper.phase ≡ W
 
   -- a torn write leaves the words so far
   pub torn_done : (torn : List ℕ) (n : ℕ) → Torn at n old torn → done (record keeper { phase = Down }) torn newest ≡ done keeper old newest
-  torn_done torn n is =
-      ap (λ (l : List ℕ). l ++ filled_words keeper.chunk (drop keeper.written (newest_words keeper newest)))
-      (words_before torn old at 17 keeper.written is.before (omega arith) (omega (arith, body.room, is.no_shorter)) (omega (arith, body.room)))
+  torn_done torn n is = search (rules, body, words_before)
 
   -- whole or not, it leaves the gate
   module _ (file : List ℕ) (n : ℕ) (before after_write : List ℕ → Type 0) (follows : Follows (Torn at n) before after_write)

@@ -1,6 +1,6 @@
 -- The bytes that a crash leaves, and the beginning of a round.
-use Rattle.std.proofs.Common.{◌≡◌, inl, inr, ⊎_elim, ℕ, ◌≤◌, List, [], Bool, true, Option, Some, None, length, refl, sym, ◌∙◌, ap, subst, arith}
-use Rattle.std.specs.Prelude.{IfSome, is_some}
+use Rattle.std.proofs.Common.{rules}
+use Rattle.std.proofs.Common.{◌≡◌, ℕ, ◌≤◌, List, [], Bool, true, Option, Some, None, length, refl, sym, ◌∙◌, ap, subst, arith}
 use Rattle.disk_model.specs.Disk.{Only}
 use Rattle.file_format.specs.Gate.{HasShutGate}
 use Rattle.file_format.specs.declared.slot.Slot.{Slot}
@@ -8,12 +8,12 @@ use Rattle.file_format.specs.declared.slot.Slot.TheVariants.{A, B}
 use Rattle.file_format.specs.Slot.{other_slot, of_slot, in_slot, beside_slot}
 use Rattle.image_files.specs.declared.format.TheConstants.{CELLS_MAX}
 use Rattle.image_files.specs.declared.phase.Phase.{Phase}
-use Rattle.image_files.specs.declared.phase.Phase.TheVariants.{Idle, Closing, ClosingSync, Header, Taking, Reading, Writing, BodySync, Opening, OpeningSync, Down}
+use Rattle.image_files.specs.declared.phase.Phase.TheVariants.{Idle}
 use Rattle.image_files.specs.Image.{Image, image_of, words_from}
 use Rattle.image_files.specs.Images.{Round, Images, FirstImages, ImageFiles, NoneYet, Newest, ImageFilesAre, IsTarget}
-use Rattle.image_files.specs.Progress.{Progress, PhaseFits, IsInOrder, made_keeper, target_of, newest_words, round_so_far, round_in_phase, round_of}
+use Rattle.image_files.specs.Progress.{Progress, PhaseFits, IsInOrder, made_keeper, target_of, round_so_far, round_in_phase, round_of}
 use Rattle.image_files.specs.Keeper.{Fits, TargetFits, TargetEndures}
-use Rattle.image_files.specs.Files.{FitsFiles, before_in, Stands, StandsFor, HoldsNewest, IsReported, ReportsShut}
+use Rattle.image_files.specs.Files.{FitsFiles, Stands, StandsFor, HoldsNewest, IsReported, ReportsShut}
 use Rattle.image_files.proofs.SpellingLemmas.{open_file}
 use Rattle.image_files.proofs.GateLemmas.{shut_reads_closed}
 use Rattle.image_files.proofs.BodyLemmas.{length_done}
@@ -28,17 +28,7 @@ module _ (keeper : Progress) (before : Image) (target newest left : List ℕ) (o
   closed shut = shut_reads_closed left shut
 
   reads_so : (phase : Phase) → PhaseFits phase keeper → TargetFits phase keeper target → TargetEndures phase keeper before target newest outcomes → Reads phase
-  reads_so Idle order fits stands = ap image_of (stands.0 left outcome) ∙ stands.1
-  reads_so Closing order fits stands = inl (ap image_of (stands.0 left outcome) ∙ stands.1)
-  reads_so ClosingSync order fits stands = ⊎_elim (λ same. inl same) (λ is. inr (inl is)) (stands left outcome)
-  reads_so Header order fits stands = inr (inl (closed (subst HasShutGate (sym (stands left outcome)) fits)))
-  reads_so Opening order fits stands = inr (inl (closed (subst HasShutGate (sym (stands left outcome)) fits.0)))
-  reads_so OpeningSync order fits stands = ⊎_elim (λ is. inr (inl is)) (λ is. inr (inr (is, length_done keeper target newest order.0 order.1))) (stands left outcome)
-  reads_so Down order fits stands = stands left outcome
-  reads_so Taking order fits stands = inr (inl (closed (stands left outcome)))
-  reads_so Reading order fits stands = inr (inl (closed (stands left outcome)))
-  reads_so Writing order fits stands = inr (inl (closed (stands left outcome)))
-  reads_so BodySync order fits stands = inr (inl (closed (stands left outcome)))
+  reads_so b order fits stands = search (rules, closed, length_done)
 
   pub target_left : Fits keeper target newest → TargetEndures keeper.phase keeper before target newest outcomes → IsTarget keeper.cells before (round_of keeper target newest) (image_of left)
   target_left fits stands = reads_so keeper.phase fits.in_order.by_phase fits.of_target stands
@@ -49,18 +39,10 @@ module _ (keeper : Progress) (before : Image) (target newest left : List ℕ) (o
 module _ (keeper : Progress) (images : Images) (target newest : List ℕ) (target_outcomes newest_outcomes : List ℕ → Type 0)
     (stands : StandsFor keeper (Newest images) target newest target_outcomes newest_outcomes) where
   newest_has : (left : List ℕ) → newest_outcomes left → image_of left ≡ Image.Open images.tick images.words
-  newest_has left outcome =
-      let is = stands.held.0 in
-      let some : is_some keeper.newest ≡ true = ap is_some is in
-      let words : newest_words keeper newest ≡ words_from newest 17 keeper.cells = rw some refl in
-      let image : image_of newest ≡ Image.Open images.tick (words_from newest 17 keeper.cells) =
-      subst (λ (n : Option (Slot × ℕ)). IfSome n (λ image. image_of newest ≡ Image.Open image.1 (words_from newest 17 keeper.cells))) is stands.fits.image in
-      ap image_of (stands.endures.newest_stays left outcome) ∙ image ∙ ap (Image.Open images.tick) (sym (stands.held.1 ∙ words))
+  newest_has left outcome = search rules
 
   target_has : (left : List ℕ) → target_outcomes left → IsTarget keeper.cells images.before images.round (image_of left)
-  target_has left outcome =
-      subst (λ r. IsTarget keeper.cells images.before r (image_of left)) (sym stands.held.2)
-      (target_left keeper images.before target newest left target_outcomes outcome stands.fits stands.endures.of_target)
+  target_has left outcome = search (rules, target_left)
 
 module _ (keeper : Progress) (image_a image_b : List ℕ) (outcomes_a outcomes_b : List ℕ → Type 0) where
   -- by the file of the newest image
@@ -147,11 +129,7 @@ module _ (cells : ℕ) (some : 1 ≤ cells) (most : cells ≤ CELLS_MAX) where
         made_with shut_a shut_b image_a image_b outcomes_a outcomes_b only_a only_b a_reports b_reports (record { slot = B; tick = tick; words = words; before = before; round = round })
 
     pub made_stands : (newest : Option (Slot × ℕ)) (images : ImageFiles) → IsReported cells newest images image_a image_b → MadeStands images newest
-    made_stands newest (NoneYet images) reported =
-        subst (MadeStands (NoneYet images)) (sym reported.0)
-        (made_without shut_a shut_b image_a image_b outcomes_a outcomes_b only_a only_b a_reports b_reports images reported.1 reported.2 reported.3)
-    made_stands newest (Newest images) reported =
-        subst (MadeStands (Newest images)) (sym reported.0) (made_at images.slot images.tick images.words images.before images.round reported.1 reported.2 reported.3 reported.4)
+    made_stands newest b reported = search (rules, made_at, made_without)
 
 -- ---- between two rounds
 
@@ -164,8 +142,4 @@ in_slots B a b outcomes_a outcomes_b one other = (other, one)
 -- nothing of the files is unsynced
 pub idle_rests : (keeper : Progress) (images : ImageFiles) (a b : List ℕ) (outcomes_a outcomes_b : List ℕ → Type 0) → Stands keeper images a b outcomes_a outcomes_b → keeper.phase ≡ Idle
     → Only a outcomes_a × Only b outcomes_b
-idle_rests keeper images a b outcomes_a outcomes_b stands idle =
-    let slot = target_of keeper.newest in
-    in_slots slot a b outcomes_a outcomes_b
-    (subst (λ (p : Phase). TargetEndures p keeper (before_in images) (of_slot slot a b) (of_slot slot b a) (in_slot slot outcomes_a outcomes_b)) idle stands.endures.of_target).0
-    stands.endures.newest_stays
+idle_rests keeper images a b outcomes_a outcomes_b stands idle = search (rules, in_slots)

@@ -1,4 +1,5 @@
 -- The words of a round, by the files' names.
+use Rattle.std.proofs.Common.{rules}
 use Rattle.std.proofs.Common.{◌≡◌, ℕ, List, Option, sym, ap, subst}
 use Rattle.std.specs.Prelude.{⊤}
 use Rattle.file_format.specs.declared.slot.Slot.{Slot}
@@ -21,10 +22,7 @@ module _ (old new : Progress) (slot : Slot) (is : slot ≡ target_of old.newest)
 
   pub done_stays : (given : ImageAnswer) → IfOpened given (new ≡ opened_keeper old) ((new.tick ≡ old.tick) × (new.newest ≡ old.newest))
       → IfOpened given ⊤ (Words slot slot) → IfOpened given ⊤ (done_in new a' b' ≡ done_in old a b)
-  done_stays (answer.Opened tick) ended words = words
-  done_stays answer.Idle ended words = words_stay ended.1 words
-  done_stays answer.Working ended words = words_stay ended.1 words
-  done_stays answer.Down ended words = words_stay ended.1 words
+  done_stays b ended words = search (rules, words_stay)
 
   -- a cell's word is added
   abbrev Took : Option Taken → Slot → Slot → Type 0
@@ -37,13 +35,9 @@ module _ (old new : Progress) (slot : Slot) (is : slot ≡ target_of old.newest)
   pub opened_words : (given : ImageAnswer) (left_a left_b : List ℕ → Type 0)
       → OnOpened given (IsOpenedImage old (done old (of_slot slot a b) (of_slot slot b a)) (of_slot slot a' b') (in_slot slot left_a left_b))
       → OnOpened given (IsOpenedImage old (done_in old a b) (of_slot (target_of old.newest) a' b') (in_slot (target_of old.newest) left_a left_b))
-  opened_words given left_a left_b opened =
-      subst (λ s. OnOpened given (IsOpenedImage old (done old (of_slot s a b) (of_slot s b a)) (of_slot s a' b') (in_slot s left_a left_b))) is opened
+  opened_words given left_a left_b opened = search rules
 
 -- a take leaves the newest image
 pub newest_stays : (old new : Progress) (given : ImageAnswer) → given ≡ answer.Working
     → IfOpened given (new ≡ opened_keeper old) ((new.tick ≡ old.tick) × (new.newest ≡ old.newest)) → new.newest ≡ old.newest
-newest_stays old new given working ended =
-    let now : IfOpened answer.Working (new ≡ opened_keeper old) ((new.tick ≡ old.tick) × (new.newest ≡ old.newest)) =
-    subst (λ g. IfOpened g (new ≡ opened_keeper old) ((new.tick ≡ old.tick) × (new.newest ≡ old.newest))) working ended in
-    now.1
+newest_stays old new given working ended = search rules

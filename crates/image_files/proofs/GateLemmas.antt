@@ -1,4 +1,5 @@
 -- The facts on a whole file that follow from its gate.
+use Rattle.std.proofs.Common.{rules}
 use Rattle.std.proofs.Common.{◌≡◌, ℕ, ◌<◌, List, arith}
 use Rattle.std.proofs.lemmas.Grind.{common_steps}
 use Rattle.std.proofs.lemmas.Bool.Decides.{nat_tests}
@@ -14,6 +15,4 @@ shut_reads_closed file shut = let other = shut.1 in grind (arith, nat_tests, com
 
 -- writes after the gate leave it
 pub follows_shut : (at n : ℕ) (old new : List ℕ → Type 0) → 0 < at → Follows (Torn at n) old new → AllShut old → AllShut new
-follows_shut at n old new behind follows shut left outcome =
-    let from = follows left outcome in
-    torn_behind_gate from.0 left at n behind from.2 (shut from.0 from.1)
+follows_shut at n old new behind follows shut left outcome = search (rules, torn_behind_gate)

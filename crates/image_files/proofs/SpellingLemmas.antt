@@ -1,4 +1,5 @@
 -- The bytes of an image, and their reading.
+use Rattle.std.proofs.Common.{rules}
 use Rattle.std.proofs.Common.{◌≡◌, ℕ, zero, suc, ◌+◌, ◌*◌, ◌^◌, ◌<◌, ◌≤◌, List, [], ◌∷◌, ◌++◌, Bool, true, false, Option, Some}
 use Rattle.std.proofs.Common.{None, ◌&&◌, cond, length, get_or, take, drop, refl, sym, ◌∙◌, ap, subst, arith, length-append}
 use Rattle.std.proofs.Common.{length-drop}
@@ -10,7 +11,6 @@ use Rattle.std.specs.Prelude.{nat_le, All}
 use Rattle.std.specs.List.{list_all, flat_map}
 use Rattle.world_actions.specs.World.{IsWord, IsWorld}
 use Rattle.file_format.specs.declared.format.Format.{Format}
-use Rattle.file_format.specs.declared.format.Format.TheVariants.{First, Second}
 use Rattle.file_format.specs.Format.{marked_of, unmarked}
 use Rattle.file_format.proofs.FormatLemmas.{unmarked-marked_of, marked_of-unmarked}
 use Rattle.file_format.specs.Number.{IsBytes, number_of, number_bytes}
@@ -21,8 +21,7 @@ use Rattle.image_files.proofs.WordLemmas.{number_written, length-words_from}
 -- ---- tests
 
 pub both : (a b : Bool) → (a && b) ≡ true → (a ≡ true) × (b ≡ true)
-both true b holds = (refl, holds)
-both false b holds = absurd (cc holds)
+both d b holds = search rules
 
 le_of : (a b : ℕ) → nat_le a b ≡ true → a ≤ b
 le_of a b holds = grind (arith, nat_tests)
@@ -59,18 +58,11 @@ words_written front (w ∷ words) rest place at pass =
 
 -- a number of cells within the bounds of its format is read
 pub cells_found : (format : Format) (marked cells : ℕ) → marked ≡ marked_of format cells → 1 ≤ cells → cells ≤ cells_most format → cells_of (unmarked marked) ≡ Some cells
-cells_found format marked cells is some most =
-    let bounds : (nat_le 1 cells && nat_le cells (cells_most format)) ≡ true = rw (test_of 1 cells some, test_of cells (cells_most format) most) refl in
-    ap (λ (m : ℕ). cells_of (unmarked m)) is ∙ ap cells_of (unmarked-marked_of format cells (small format most)) ∙ rw bounds refl
-  where
-    small : (format : Format) → cells ≤ cells_most format → cells < 1152921504606846976
-    small First most = omega arith
-    small Second most = omega arith
+cells_found format marked cells is some most = search (rules, test_of, unmarked-marked_of)
 
 -- a marked number of cells has 8 bytes
 pub marked_fits : (format : Format) (cells : ℕ) → cells ≤ 1048576 → marked_of format cells < 256 ^ 8
-marked_fits First cells most = omega arith
-marked_fits Second cells most = omega arith
+marked_fits b cells most = search rules
 
 -- an open gate over a whole header and words is an image
 pub whole_reads : (file : List ℕ) (tick : ℕ) (words : List ℕ) → get_or file 0 0 ≡ 1 → cells_in file ≡ Some (length words) → tick_in file ≡ tick → words_from file 17 (length words) ≡ words
@@ -113,19 +105,11 @@ image_read format tick words rest small world most =
 -- ---- read images are spelled
 
 chosen : (a : Bool) (read : Image) (t : ℕ) (ws : List ℕ) → cond a read Image.Closed ≡ Image.Open t ws → (a ≡ true) × (read ≡ Image.Open t ws)
-chosen true read t ws is = (refl, is)
-chosen false read t ws is = absurd (cc is)
+chosen b read t ws is = search rules
 
 chosen_whole : (file : List ℕ) (cells : Option ℕ) (tick t : ℕ) (ws : List ℕ) → open_image file cells tick ≡ Image.Open t ws
     → (n : ℕ) × (cells ≡ Some n) × (is_whole file n tick ≡ true) × (tick ≡ t) × (words_from file 17 n ≡ ws)
-chosen_whole file None tick t ws is = absurd (cc is)
-chosen_whole file (Some n) tick t ws is =
-    let parts = of_test (is_whole file n tick) is in
-    (n, refl, parts.0, parts.1, parts.2)
-  where
-    of_test : (b : Bool) → cond b (Image.Open tick (words_from file 17 n)) Image.Bad ≡ Image.Open t ws → (b ≡ true) × (tick ≡ t) × (words_from file 17 n ≡ ws)
-    of_test true same = (refl, cc, cc)
-    of_test false same = absurd (cc same)
+chosen_whole file b tick t ws is = search rules
 
 -- a number of cells that is read has a mark, and is within the bounds of its format
 pub cells_bounded : (marked cells : ℕ) → cells_of (unmarked marked) ≡ Some cells → (format : Format) × (marked ≡ marked_of format cells) × (1 ≤ cells) × (cells ≤ cells_most format)
@@ -136,16 +120,10 @@ cells_bounded marked cells is = of_mark (unmarked marked) refl is
     of_test false n same = absurd (cc same)
 
     of_mark : (read : Option (Format × ℕ)) → unmarked marked ≡ read → cells_of read ≡ Some cells → (format : Format) × (marked ≡ marked_of format cells) × (1 ≤ cells) × (cells ≤ cells_most format)
-    of_mark None same here = absurd (cc here)
-    of_mark (Some (format, n)) same here =
-        let parts = of_test (nat_le 1 n && nat_le n (cells_most format)) n here in
-        let tests = both (nat_le 1 n) (nat_le n (cells_most format)) parts.0 in
-        let marked_is : marked ≡ marked_of format cells = (marked_of-unmarked marked format n same).0 ∙ ap (marked_of format) parts.1 in
-        (format, marked_is, omega (arith, le_of _ _ tests.0, parts.1), subst (λ (m : ℕ). m ≤ cells_most format) parts.1 (le_of _ _ tests.1))
+    of_mark b same here = search (rules, both, le_of, marked_of-unmarked)
 
 pub most_of : (format : Format) → cells_most format ≤ 1048576
-most_of First = omega arith
-most_of Second = omega arith
+most_of b = search rules
 
 -- the parts of an open image's file
 pub record OpenFile (file : List ℕ) (tick : ℕ) (words : List ℕ) : Type 0 where

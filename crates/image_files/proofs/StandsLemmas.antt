@@ -1,17 +1,18 @@
 -- After a step the keeper and its files still represent images.
-use Rattle.std.proofs.Common.{◌≡◌, ◌⊎◌, inl, inr, ◌↔◌, ℕ, List, [], true, false, Option, Some, None, length, refl, sym, ◌∙◌, ap, subst, Bool, IsTrue}
-use Rattle.std.specs.Prelude.{IfSome, IfNone, is_some, option_map, ⊤}
+use Rattle.std.proofs.Common.{rules}
+use Rattle.std.proofs.Common.{◌≡◌, ◌⊎◌, inl, inr, ◌↔◌, ℕ, List, Option, Some, None, length, refl, sym, ◌∙◌, ap, subst, Bool, IsTrue}
+use Rattle.std.specs.Prelude.{IfNone, option_map, ⊤}
 use Rattle.disk_model.specs.Disk.{Within}
 use Rattle.file_format.specs.declared.slot.Slot.{Slot}
 use Rattle.file_format.specs.declared.slot.Slot.TheVariants.{A, B}
 use Rattle.file_format.specs.Slot.{other_slot, of_slot, in_slot, beside_slot}
 use Rattle.capture_core.specs.declared.taker.Taken.{Taken}
 use Rattle.image_files.specs.declared.phase.Phase.{Phase}
-use Rattle.image_files.specs.declared.phase.Phase.TheVariants.{Idle, Closing, ClosingSync, Header, Taking, Reading, Writing, BodySync, Opening, OpeningSync, Down}
+use Rattle.image_files.specs.declared.phase.Phase.TheVariants.{Idle, Taking, Down}
 use Rattle.image_files.specs.declared.answer.ImageAnswer.{ImageAnswer}
 use Rattle.image_files.specs.declared.answer.ImageAnswer.TheVariants as answer
-use Rattle.image_files.specs.Image.{Image, image_of, words_from}
-use Rattle.image_files.specs.Images.{Round, ImageFiles, NoneYet, Newest, StepsImages, round_in, with_cell, with_taken, with_opened}
+use Rattle.image_files.specs.Image.{Image, image_of}
+use Rattle.image_files.specs.Images.{Round, ImageFiles, StepsImages, round_in, with_cell, with_taken, with_opened}
 use Rattle.image_files.specs.Progress.{Progress, target_of, newest_words, done, round_so_far, round_in_phase, round_of, cells_taken, opened_keeper}
 use Rattle.image_files.specs.Keeper.{Fits, Endures}
 use Rattle.image_files.specs.Steps.{IfOpened, OnOpened, OnWorking, TookWord, IsOpenedImage}
@@ -40,41 +41,19 @@ pub record Stepped {S : Type 0} (took : S → Option Taken → S → Type 0) (ho
   pub stays : IsTrue honest → (newest' ≡ newest) × Within beside beside'
 
 is_phase : (phase : Phase) → (phase ≡ Taking) ⊎ (phase ≡ Taking → ⊥)
-is_phase Taking = inl refl
-is_phase Idle = inr (λ e. cc e)
-is_phase Closing = inr (λ e. cc e)
-is_phase ClosingSync = inr (λ e. cc e)
-is_phase Header = inr (λ e. cc e)
-is_phase Reading = inr (λ e. cc e)
-is_phase Writing = inr (λ e. cc e)
-is_phase BodySync = inr (λ e. cc e)
-is_phase Opening = inr (λ e. cc e)
-is_phase OpeningSync = inr (λ e. cc e)
-is_phase Down = inr (λ e. cc e)
+is_phase b = search rules
 
 -- a round is in work in each other phase
 in_work : (phase : Phase) (round : Round) → (phase ≡ Idle → ⊥) → round_in_phase phase round ≡ Some round
-in_work Idle round busy = absurd (busy refl)
-in_work Closing round busy = refl
-in_work ClosingSync round busy = refl
-in_work Header round busy = refl
-in_work Taking round busy = refl
-in_work Reading round busy = refl
-in_work Writing round busy = refl
-in_work BodySync round busy = refl
-in_work Opening round busy = refl
-in_work OpeningSync round busy = refl
-in_work Down round busy = refl
+in_work b round busy = search rules
 
 held_round : (images : ImageFiles) (keeper : Progress) (target newest : List ℕ) → IsHeld images keeper target newest → round_in images ≡ round_of keeper target newest
-held_round (NoneYet images) keeper target newest held = held.2
-held_round (Newest images) keeper target newest held = held.2
+held_round b keeper target newest held = search rules
 
 -- the round in work
 pub round_stands : (images : ImageFiles) (keeper : Progress) (target newest : List ℕ) → IsHeld images keeper target newest → (keeper.phase ≡ Idle → ⊥)
     → (round : Round) × (round_in images ≡ Some round) × (round.tick ≡ keeper.tick) × (length round.taken ≡ cells_taken keeper)
-round_stands images keeper target newest held busy =
-    (round_so_far keeper target newest, held_round images keeper target newest held ∙ in_work keeper.phase (round_so_far keeper target newest) busy, refl, length-done keeper target newest)
+round_stands images keeper target newest held busy = search (rules, held_round, in_work, length-done)
 
 words_on : (old new : Progress) (newest newest' : List ℕ) → new.newest ≡ old.newest → new.cells ≡ old.cells → newest' ≡ newest → newest_words new newest' ≡ newest_words old newest
 words_on old new newest newest' same cells stays = rw (same, cells, stays) refl
@@ -83,14 +62,11 @@ words_on old new newest newest' same cells stays = rw (same, cells, stays) refl
 held_on : (images : ImageFiles) (old new : Progress) (target target' newest newest' : List ℕ) → new.newest ≡ old.newest
     → new.cells ≡ old.cells → newest' ≡ newest → round_of new target' newest' ≡ round_of old target newest
     → IsHeld images old target newest → IsHeld images new target' newest'
-held_on (NoneYet images) old new target target' newest newest' same cells stays round held = (same ∙ held.0, ap image_of stays ∙ held.1, held.2 ∙ sym round)
-held_on (Newest images) old new target target' newest newest' same cells stays round held =
-    (same ∙ held.0, held.1 ∙ sym (words_on old new newest newest' same cells stays), held.2 ∙ sym round)
+held_on b old new target target' newest newest' same cells stays round held = search (rules, words_on)
 
 -- a take leaves how the target read before the round
 before_taken : (cell : Taken) (images : ImageFiles) → before_in (with_taken cell images) ≡ before_in images
-before_taken cell (NoneYet images) = refl
-before_taken cell (Newest images) = refl
+before_taken cell b = search rules
 
 idle_round : (keeper : Progress) (target newest : List ℕ) → keeper.phase ≡ Idle → round_of keeper target newest ≡ None
 idle_round keeper target newest is = ap (λ (p : Phase). round_in_phase p (round_so_far keeper target newest)) is
@@ -114,24 +90,10 @@ module _ {S : Type 0} (took : S → Option Taken → S → Type 0) (honest : Boo
 
   -- the round so far stays
   same_round : (new.phase ≡ Idle → ⊥) → (old.phase ≡ Idle → ⊥) → new.tick ≡ old.tick → done new target' newest' ≡ done old target newest → round_of new target' newest' ≡ round_of old target newest
-  same_round busy_new busy_old tick words =
-      let both : round_so_far new target' newest' ≡ round = rw (tick, words) refl in
-      in_work new.phase (round_so_far new target' newest') busy_new ∙ ap Some both ∙ sym (in_work old.phase round busy_old)
+  same_round busy_new busy_old tick words = search (rules, in_work)
 
   idle_kept : Step answer.Idle → Kept answer.Idle
-  idle_kept step =
-      let is = step.idle.0 refl in
-      let same = step.rests (inl is) in
-      let no_round : round_of new target' newest' ≡ round_of old target newest =
-      idle_round new target' newest' (ap (λ (k : Progress). k.phase) same ∙ is) ∙ sym (idle_round old target newest is) in (
-        images,
-        record {
-          fits = step.fits sure;
-          endures = step.endures sure (before_in images) stands.endures;
-          held = held_on images old new target target' newest newest' step.ended.1 step.cells (step.stays sure).0 no_round stands.held;
-        },
-        (held_round images old target newest stands.held ∙ idle_round old target newest is, refl, step.not_took (λ taking. cc (is, taking))),
-      )
+  idle_kept step = search (rules, held_on, held_round, idle_round)
 
   down_kept : Step answer.Down → Kept answer.Down
   down_kept step =
@@ -159,11 +121,7 @@ module _ {S : Type 0} (took : S → Option Taken → S → Type 0) (honest : Boo
           ap (option_map (with_cell cell ws)) (so_far ∙ in_work old.phase round busy_old) ∙ ap Some taken ∙ sym (in_work new.phase (round_so_far new target' newest') busy_new)
 
       by_images : (images : ImageFiles) → IsHeld images old target newest → IsHeld (with_taken cell images) new target' newest'
-      by_images (NoneYet images) held =
-          let none : is_some old.newest ≡ false = ap is_some held.0 in
-          let no_words : [] ≡ newest_words old newest = rw none refl in
-          (same ∙ held.0, ap image_of stays ∙ held.1, round_after [] no_words images.round held.2)
-      by_images (Newest images) held = (same ∙ held.0, held.1 ∙ sym (words_on old new newest newest' same cells stays), round_after images.words held.1 images.round held.2)
+      by_images b held = search (rules, words_on)
 
   -- the image of the round is opened
   opened_stands : (tick : ℕ) → new ≡ opened_keeper old → IsOpenedImage old (done old target newest) target' left' tick
@@ -175,39 +133,13 @@ module _ {S : Type 0} (took : S → Option Taken → S → Type 0) (honest : Boo
       newest_is = ap (λ (k : Progress). k.newest) is
 
       words_are : done old target newest ≡ newest_words new target'
-      words_are =
-          let some : is_some new.newest ≡ true = ap is_some newest_is in
-          let words : newest_words new target' ≡ words_from target' 17 new.cells = rw some refl in
-          let read : image_of target' ≡ Image.Open old.tick (words_from target' 17 new.cells) =
-          subst (λ (n : Option (Slot × ℕ)). IfSome n (λ image. image_of target' ≡ Image.Open image.1 (words_from target' 17 new.cells))) newest_is fits.image in
-          let same : Image.Open tick (done old target newest) ≡ Image.Open old.tick (words_from target' 17 new.cells) = sym image.image ∙ read in
-          let equal : done old target newest ≡ words_from target' 17 new.cells = cc in
-          equal ∙ sym words
+      words_are = search rules
 
       idle_now : None ≡ round_of new newest' target'
       idle_now = sym (idle_round new newest' target' (ap (λ (k : Progress). k.phase) is))
 
       by_images : (images : ImageFiles) → IsHeld images old target newest → StandsFor new (with_opened round images) newest' target' beside' left'
-      by_images (NoneYet images) held =
-          let closed : image_of newest' ≡ Image.Closed = ap image_of stays ∙ held.1 in
-          let slot : target_of old.newest ≡ A = ap target_of held.0 in
-          record {
-            fits = fits;
-            endures = subst (λ (before : Image). Endures new before newest' target' beside' left') closed endures;
-            held = (newest_is ∙ ap (λ (s : Slot). Some (s, old.tick)) slot, words_are, idle_now);
-          }
-      by_images (Newest images) held =
-          let some : is_some old.newest ≡ true = ap is_some held.0 in
-          let words : newest_words old newest ≡ words_from newest 17 old.cells = rw some refl in
-          let read : image_of newest ≡ Image.Open images.tick (words_from newest 17 old.cells) =
-          subst (λ (n : Option (Slot × ℕ)). IfSome n (λ image. image_of newest ≡ Image.Open image.1 (words_from newest 17 old.cells))) held.0 old_fits.image in
-          let was : image_of newest' ≡ Image.Open images.tick images.words = ap image_of stays ∙ read ∙ ap (Image.Open images.tick) (sym (held.1 ∙ words)) in
-          let slot : target_of old.newest ≡ other_slot images.slot = ap target_of held.0 in
-          record {
-            fits = fits;
-            endures = subst (λ (before : Image). Endures new before newest' target' beside' left') was endures;
-            held = (newest_is ∙ ap (λ (s : Slot). Some (s, old.tick)) slot, words_are, idle_now);
-          }
+      by_images b held = search (rules, idle_now, words_are)
 
   working_kept : Step answer.Working → Kept answer.Working
   working_kept step = elim (is_phase old.phase) [

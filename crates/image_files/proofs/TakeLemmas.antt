@@ -1,5 +1,6 @@
 -- The facts that a take keeps.
-use Rattle.std.proofs.Common.{◌≡◌, inl, inr, ℕ, ◌+◌, ◌<◌, ◌≤◌, List, [], ◌∷◌, ◌++◌, true, Option, Some, None, length, get_or, drop, refl, sym, ◌∙◌, ap, subst, arith, length-append}
+use Rattle.std.proofs.Common.{rules}
+use Rattle.std.proofs.Common.{◌≡◌, inl, inr, ℕ, ◌+◌, ◌<◌, ◌≤◌, List, [], ◌∷◌, ◌++◌, true, Option, Some, None, length, get_or, drop, sym, ◌∙◌, ap, subst, arith, length-append}
 use Rattle.std.proofs.lemmas.List.{append_assoc, get_or-drop}
 use Rattle.std.proofs.lemmas.List.Folds.{list_all-append}
 use Rattle.std.proofs.lemmas.Bool.{cases_Bool}
@@ -7,7 +8,6 @@ use Rattle.std.proofs.lemmas.Bool.Decides.{nat_tests}
 use Rattle.std.specs.Prelude.{nat_lt, is_some}
 use Rattle.std.specs.List.{list_all}
 use Rattle.capture_core.specs.declared.taker.Taken.{Taken}
-use Rattle.capture_core.specs.declared.taker.Taken.TheVariants.{Word, Same}
 use Rattle.capture_core.specs.Taken.{IsTakenWord}
 use Rattle.image_files.specs.declared.phase.Phase.{Phase}
 use Rattle.image_files.specs.declared.phase.Phase.TheVariants.{Taking, Reading, Writing}
@@ -22,20 +22,14 @@ use Rattle.image_files.proofs.ChunkLemmas.{filled_words-push, length-filled_word
 use Rattle.image_files.proofs.BodyLemmas.{in_phase}
 
 limit : (cell : Taken) (n : ℕ) → IsTakenWord cell → is_word (word_of cell (get_or [] n 0)) ≡ true
-limit (Word word) n le = grind (arith, nat_tests)
-limit Same n le = refl
+limit b n le = search (rules, nat_tests)
 
 chunk_pass : (cells : List Taken) (cell : Taken) → IsTakenWord cell → list_all is_word (filled_words cells []) ≡ true → list_all is_word (filled_words (cells ++ cell ∷ []) []) ≡ true
-chunk_pass cells cell le all =
-    let last = word_of cell (get_or [] (length cells) 0) in
-    let one : list_all is_word (last ∷ []) ≡ true = rw (limit cell (length cells) le) refl in
-    ap (list_all is_word) (filled_words-push cells cell []) ∙ list_all-append is_word (filled_words cells []) (last ∷ []) ∙ rw (all, one) refl
+chunk_pass cells cell le all = search (rules, filled_words-push, limit, list_all-append)
 
 -- each taken cell has its word
 pub length-done : (keeper : Progress) (target newest : List ℕ) → length (done keeper target newest) ≡ cells_taken keeper
-length-done keeper target newest =
-    let old = drop keeper.written (newest_words keeper newest) in
-    omega (arith, length-append (words_from target 17 keeper.written) (filled_words keeper.chunk old), length-words_from target 17 keeper.written, length-filled_words keeper.chunk old)
+length-done keeper target newest = search (rules, length-append, length-filled_words, length-words_from)
 
 -- a cell is taken
 module _ (keeper : Progress) (cell : Taken) (phase : keeper.phase ≡ Taking) (order : IsInOrder keeper) where
@@ -87,9 +81,7 @@ module _ (keeper : Progress) (cell : Taken) (phase : keeper.phase ≡ Taking) (o
 
     took_endures : (before : Image) (outcomes : List ℕ → Type 0) → TargetEndures keeper.phase keeper before target newest outcomes
         → TargetEndures (after_take keeper chunk) (with_taken_cell cell keeper) before target newest outcomes
-    took_endures before outcomes stood =
-        let shut = subst (λ (p : Phase). TargetEndures p keeper before target newest outcomes) phase stood in
-        by_cases (λ next. TargetEndures next (took next) before target newest outcomes) (λ b. shut) (λ b. shut) (λ b. shut)
+    took_endures before outcomes stood = search (rules, by_cases)
 
     -- its word is at its place
     took_word : done (with_taken_cell cell keeper) target newest ≡ done keeper target newest ++ word_of cell (get_or (newest_words keeper newest) (length (done keeper target newest)) 0) ∷ []
@@ -111,18 +103,9 @@ take_fits (Some cell) old new target newest phase took fits =
 
 pub take_word : (cell : Option Taken) (old new : Progress) (target newest : List ℕ) → old.phase ≡ Taking → IsInOrder old
     → TookCell cell old new → TookWord cell old newest (done old target newest) (done new target newest)
-take_word None old new target newest phase order same = ap (λ (k : Progress). done k target newest) same
-take_word (Some cell) old new target newest phase order took =
-    ap (λ (k : Progress). done k target newest) took.1 ∙ took_word old cell phase order target newest
+take_word b old new target newest phase order same = search (rules, took_word)
 
 pub take_endures : (cell : Option Taken) (old new : Progress) (before : Image) (target newest : List ℕ)
     (target_outcomes newest_outcomes : List ℕ → Type 0) → old.phase ≡ Taking → IsInOrder old → TookCell cell old new
     → Endures old before target newest target_outcomes newest_outcomes → Endures new before target newest target_outcomes newest_outcomes
-take_endures None old new before target newest target_outcomes newest_outcomes phase order same endures =
-    subst (λ (k : Progress). Endures k before target newest target_outcomes newest_outcomes) (sym same) endures
-take_endures (Some cell) old new before target newest target_outcomes newest_outcomes phase order took endures =
-    subst (λ (k : Progress). Endures k before target newest target_outcomes newest_outcomes) (sym took.1) (record {
-      newest_stays = endures.newest_stays;
-      newest_not_shut = endures.newest_not_shut;
-      of_target = took_endures old cell phase order target newest before target_outcomes endures.of_target;
-    })
+take_endures b old new before target newest target_outcomes newest_outcomes phase order same endures = search (rules, took_endures)

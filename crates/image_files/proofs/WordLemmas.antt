@@ -1,4 +1,5 @@
 -- Numbers and words in bytes.
+use Rattle.std.proofs.Common.{rules}
 use Rattle.std.proofs.Common.{◌≡◌, ℕ, zero, suc, ◌+◌, ◌*◌, ◌^◌, ◌<◌, ◌≤◌, true, List, [], ◌∷◌, ◌++◌, length, get_or, take, drop, refl, sym, ◌∙◌, ap, arith, length-drop}
 use Rattle.std.proofs.lemmas.List.{take-append-drop, drop_at, length-take}
 use Rattle.std.proofs.lemmas.List.Folds.{list_all-append}
@@ -36,15 +37,12 @@ length-words_from bytes place (suc n) = let e = length-words_from bytes (place +
 -- words read so far, and the next one
 pub words_from-more : (bytes items : List ℕ) (place n word : ℕ) {more : List ℕ} → items ≡ words_from bytes place n
     → word ≡ number_at bytes (place + 8 * n) → more ≡ items ++ word ∷ [] → more ≡ words_from bytes place (n + 1)
-words_from-more bytes items place n word so_far next is =
-    is ∙ ap (λ (l : List ℕ). l ++ word ∷ []) so_far ∙ ap (λ (x : ℕ). words_from bytes place n ++ x ∷ []) next ∙ sym (words_from-push bytes place n)
+words_from-more bytes items place n word so_far next is = search (rules, words_from-push)
 
 -- one word more passes the test
 pub words_pass-more : (bytes : List ℕ) (place n word : ℕ) → list_all is_word (words_from bytes place n) ≡ true
     → word ≡ number_at bytes (place + 8 * n) → is_word word ≡ true → list_all is_word (words_from bytes place (n + 1)) ≡ true
-words_pass-more bytes place n word so_far next here =
-    let last : is_word (number_at bytes (place + 8 * n)) ≡ true = ap is_word (sym next) ∙ here in
-    ap (list_all is_word) (words_from-push bytes place n) ∙ list_all-append is_word (words_from bytes place n) (number_at bytes (place + 8 * n) ∷ []) ∙ rw (so_far, last) refl
+words_pass-more bytes place n word so_far next here = search (rules, list_all-append, words_from-push)
 
 -- a word by its place
 pub get_or-words_from : (bytes : List ℕ) (place n i : ℕ) → i < n → get_or (words_from bytes place n) i 0 ≡ number_at bytes (place + 8 * i)

@@ -1,5 +1,6 @@
 -- The bytes of an image of given words, and what a crash leaves while it is written.
-use Rattle.std.proofs.Common.{◌≡◌, ◌⊎◌, inl, inr, ⊎_elim, ℕ, ◌+◌, ◌*◌, List, [], ◌∷◌, ◌++◌, ◌∙◌, length, drop, ap, sym, subst, refl, arith, length-append}
+use Rattle.std.proofs.Common.{rules}
+use Rattle.std.proofs.Common.{◌≡◌, ◌⊎◌, inl, inr, ⊎_elim, ℕ, ◌+◌, ◌*◌, List, [], ◌∷◌, ◌++◌, ◌∙◌, length, drop, ap, subst, refl, arith, length-append}
 use Rattle.std.specs.List.{flat_map}
 use Rattle.world_actions.specs.World.{IsWorld}
 use Rattle.file_format.specs.declared.format.Format.TheVariants.{Second}
@@ -16,9 +17,7 @@ use Rattle.image_files.specs.WordsImage.{LeavesNone}
 
 -- a write after a shut gate leaves no image
 pub none_behind : (n : ℕ) (file : List ℕ) (old new : List ℕ → Type 0) → HasShutGate file → Only file old → Follows (Torn 1 n) old new → LeavesNone new
-none_behind n file old new shut only follows left outcome =
-    let from = follows left outcome in
-    shut_reads_closed left (torn_behind_gate from.0 left 1 n (omega arith) from.2 (subst HasShutGate (sym (only from.0 from.1)) shut))
+none_behind n file old new shut only follows left outcome = search (rules, shut_reads_closed, torn_behind_gate)
 
 -- the opening of a shut gate leaves no image, or is whole
 pub none_or_opened : (file : List ℕ) (old new : List ℕ → Type 0) → HasShutGate file → Only file old → Follows (Torn 0 1) old new

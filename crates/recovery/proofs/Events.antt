@@ -1,9 +1,9 @@
 -- Each event keeps the premises of the law of recovery on the keepers' data.
+use Rattle.std.proofs.Common.{rules}
 use Rattle.std.proofs.Common.{◌≡◌, ℕ, ◌+◌, ◌<◌, ◌≤◌, inl, inr, max, List, [], ◌∷◌, ◌++◌, length, take, drop, Option, Some, None, refl, sym, ap, subst, ◌∙◌, arith}
 use Rattle.std.proofs.lemmas.List.{append_assoc, length-append, length-drop, take_at, drop-append-le, take-append-le}
 use Rattle.std.proofs.lemmas.Bool.{cases_lt}
 use Rattle.world_actions.specs.declared.action.Action.{Action}
-use Rattle.world_ticks.specs.After.{after_ticks}
 use Rattle.action_log.specs.Segment.{Segment, ClosedSegment, MalformedSegment, OpenSegment}
 use Rattle.file_format.specs.Slot.{other_slot}
 use Rattle.image_files.specs.Image.{Image, Closed, Bad, Open}
@@ -43,31 +43,16 @@ with_switch logs tick = record logs { switch = Some tick }
 
 -- the greater of two numbers that are reached is
 pub reached_max : (m n end newest : ℕ) → Reached m end newest → Reached n end newest → Reached (max m n) end newest
-reached_max m n end newest (inl h) (inl k) = inl (omega arith)
-reached_max m n end newest (inr h) (inr k) = inr (omega arith)
-reached_max m n end newest (inl h) (inr k) =
-    elim (cases_lt n m) [
-      | inl lt ↦ inl (omega (arith, lt, h))
-      | inr le ↦ inr (omega (arith, le, k))
-    ]
-reached_max m n end newest (inr h) (inl k) =
-    elim (cases_lt n m) [
-      | inl lt ↦ inr (omega (arith, lt, h))
-      | inr le ↦ inl (omega (arith, le, k))
-    ]
+reached_max m n end newest b d = search (rules, cases_lt)
 
 reaches_later : (end base newest newer : ℕ) → newest ≤ newer → Reaches end base newest → Reaches end base newer
-reaches_later end base newest newer le (inl e) = inl e
-reaches_later end base newest newer le (inr h) = inr (h.0, omega (arith, h.1))
+reaches_later end base newest newer le b = search rules
 
 leads_later : (ticks : List (List Action)) (newest newer base : ℕ) (before : Segment) → newest ≤ newer → LeadsTo ticks newest base before → LeadsTo ticks newer base before
-leads_later ticks newest newer base ClosedSegment le h = tt
-leads_later ticks newest newer base MalformedSegment le h = h
-leads_later ticks newest newer base (OpenSegment earlier first) le h = (h.0, h.1, reaches_later (earlier + length first) base newest newer le h.2)
+leads_later ticks newest newer base b le h = search (rules, reaches_later)
 
 switch_later : (newest newer : ℕ) (logs : Logs) (switch : Option ℕ) → newest ≤ newer → IsSwitchOf newest logs switch → IsSwitchOf newer logs switch
-switch_later newest newer logs None le h = tt
-switch_later newest newer logs (Some tick) le h = (h.0, h.1, reaches_later (logs.base + length logs.kept) tick newest newer le h.2)
+switch_later newest newer logs b le h = search (rules, reaches_later)
 
 -- a newer image is opened
 pub logs_later : (ticks : List (List Action)) (acknowledged newest newer : ℕ) (logs : Logs) → newest ≤ newer → LogsFollow ticks acknowledged newest logs → LogsFollow ticks acknowledged newer logs
@@ -81,24 +66,15 @@ logs_later ticks acknowledged newest newer logs le f = record {
 -- an opened image acknowledges its tick
 pub logs_opened : (ticks : List (List Action)) (acknowledged newest newer : ℕ) (logs : Logs) → newest ≤ newer
     → LogsFollow ticks acknowledged newest logs → LogsFollow ticks (max acknowledged newer) newer logs
-logs_opened ticks acknowledged newest newer logs le f =
-    let after = logs_later ticks acknowledged newest newer logs le f in
-    record {
-      taken = after.taken;
-      acknowledges = reached_max acknowledged newer (logs.base + length logs.kept) newer after.acknowledges (inr (omega arith));
-      before = after.before;
-      switch = after.switch;
-    }
+logs_opened ticks acknowledged newest newer logs le f = search (rules, logs_later, reached_max)
 
 pub has_later : (logs : Logs) (taken newest newer : ℕ) (queue : List Record) → newest ≤ newer → HasUpTo logs taken newest queue → HasUpTo logs taken newer queue
-has_later logs taken newest newer queue le (inl e) = inl e
-has_later logs taken newest newer queue le (inr h) = inr (h.0, h.1, omega (arith, h.2), h.3)
+has_later logs taken newest newer queue le b = search rules
 
 -- ---- the records in front
 
 begins_lower : (low more : ℕ) (ticks : List ℕ) → low ≤ more → BeginFrom more ticks → BeginFrom low ticks
-begins_lower low more [] le h = tt
-begins_lower low more (tick ∷ ticks) le h = omega (arith, h)
+begins_lower low more b le h = search rules
 
 -- the first switch isn't earlier than the ticks before it in the queue
 pub first_switch : (taken : ℕ) (queue : List Record) → AreNumbered taken queue → BeginFrom taken (switches_in queue)
@@ -162,15 +138,12 @@ bases_done (OpenSegment first ticks) base mark newest later (one ∷ earlier) ro
 -- the round in work is opened
 pub opened_follows : (first : List ℕ) (ticks : List (List Action)) (images : Images) (round : Round)
     → ImagesFollow first ticks images → IsRoundOf first ticks images.tick (Some round) → length round.taken ≡ length first → ImagesFollow first ticks (with_round_opened images round)
-opened_follows first ticks images round f r all =
-    let later : images.tick ≤ round.tick = omega (arith, r.0) in
-    record { newest = r.1 all; before = (later, f.newest); round = tt }
+opened_follows first ticks images round f r all = search rules
 
 -- ---- a mark
 
 pub coming_more : (switch : Option ℕ) (later more : List ℕ) → coming switch (later ++ more) ≡ coming switch later ++ more
-coming_more None later more = refl
-coming_more (Some tick) later more = refl
+coming_more b later more = search rules
 
 -- the mark is the last of the bases
 pub bases_more : (before : Segment) (base newest mark : ℕ) (switch : Option ℕ) (later earlier : List ℕ) → base_in before ++ base ∷ coming switch later ≡ earlier ++ newest ∷ []
@@ -200,8 +173,7 @@ rising_more (OpenSegment first some) base newest mark ticks (one ∷ earlier) e 
     rise_more base newest mark ticks earlier rest lt rise
 
 pub begin_more : (low mark : ℕ) (ticks : List ℕ) → low ≤ mark → BeginFrom low ticks → BeginFrom low (ticks ++ mark ∷ [])
-begin_more low mark [] le h = le
-begin_more low mark (tick ∷ ticks) le h = h
+begin_more low mark b le h = search rules
 
 mark_numbered_in : (taken mark : ℕ) (queue : List Record) → mark ≡ taken + length (ticks_in queue) → AreNumbered taken queue → AreNumbered taken (queue ++ records.Switch mark ∷ [])
 mark_numbered_in taken mark [] e n = (omega arith, tt)
@@ -210,8 +182,7 @@ mark_numbered_in taken mark (records.Switch tick ∷ queue) e n = (n.0, mark_num
 
 pub mark_numbered : (switch : Option ℕ) (taken mark : ℕ) (queue : List Record) → mark ≡ taken + length (ticks_in queue)
     → AreNumbered taken (with_work switch queue) → AreNumbered taken (with_work switch (queue ++ records.Switch mark ∷ []))
-mark_numbered None taken mark queue e n = mark_numbered_in taken mark queue e n
-mark_numbered (Some number) taken mark queue e n = (n.0, mark_numbered_in taken mark queue e n.1)
+mark_numbered b taken mark queue e n = search (rules, mark_numbered_in)
 
 tick_numbered_in : (taken : ℕ) (tick : Actions) (queue : List Record) → AreNumbered taken queue → AreNumbered taken (queue ++ records.Tick tick ∷ [])
 tick_numbered_in taken tick [] n = tt
@@ -220,19 +191,14 @@ tick_numbered_in taken actions (records.Switch tick ∷ queue) n = (n.0, tick_nu
 
 pub tick_numbered : (switch : Option ℕ) (taken : ℕ) (tick : Actions) (queue : List Record)
     → AreNumbered taken (with_work switch queue) → AreNumbered taken (with_work switch (queue ++ records.Tick tick ∷ []))
-tick_numbered None taken tick queue n = tick_numbered_in taken tick queue n
-tick_numbered (Some number) taken tick queue n = (n.0, tick_numbered_in taken tick queue n.1)
+tick_numbered b taken tick queue n = search (rules, tick_numbered_in)
 
 first_more : (switch : Option ℕ) (queue : List Record) (added : Record) → IsSwitchFirst (with_work switch queue) → IsSwitchFirst (with_work switch (queue ++ added ∷ []))
-first_more None [] added h = absurd h
-first_more None (records.Tick tick ∷ queue) added h = absurd h
-first_more None (records.Switch tick ∷ queue) added h = tt
-first_more (Some number) queue added h = tt
+first_more b queue added h = search rules
 
 pub has_more : (logs : Logs) (taken newest : ℕ) (switch : Option ℕ) (queue : List Record) (added : Record)
     → HasUpTo logs taken newest (with_work switch queue) → HasUpTo logs taken newest (with_work switch (queue ++ added ∷ []))
-has_more logs taken newest switch queue added (inl e) = inl e
-has_more logs taken newest switch queue added (inr h) = inr (h.0, h.1, h.2, first_more switch queue added h.3)
+has_more logs taken newest switch queue added b = search (rules, first_more)
 
 -- ---- a cover
 
@@ -260,9 +226,7 @@ bases_behind newest tick (one ∷ below) later (first ∷ earlier) round all le 
 
 base_below : (ticks : List (List Action)) (newest base tick : ℕ) (before : Segment) (below : List ℕ)
     → LeadsTo ticks newest base before → base < tick → AreBelow tick below → AreBelow tick (base_in before ++ base ∷ below)
-base_below ticks newest base tick ClosedSegment below h lt all = (lt, all)
-base_below ticks newest base tick MalformedSegment below h lt all = absurd h
-base_below ticks newest base tick (OpenSegment earlier first) below h lt all = (omega (arith, h.0), (lt, all))
+base_below ticks newest base tick b below h lt all = search rules
 
 -- without the switches before this one the last bases are the same
 pub bases_covered : (ticks : List (List Action)) (base newest tick : ℕ) (before : Segment) (switches later earlier round : List ℕ)
@@ -298,30 +262,18 @@ numbered_behind taken tick (records.Switch number ∷ front) behind n = numbered
 
 -- the segment has no more than the ticks that were taken
 pub has_upto : (logs : Logs) (taken newest : ℕ) (queue : List Record) → logs.pending ≡ [] → HasUpTo logs taken newest queue → logs.base + length (logs.kept ++ logs.pending) ≤ taken
-has_upto logs taken newest queue none (inl e) = omega (arith, e)
-has_upto logs taken newest queue none (inr h) = omega (arith, h.1, length-append logs.kept logs.pending, ap length none)
+has_upto logs taken newest queue none b = search (rules, length-append)
 
 -- ---- a tick ends
 
 end_stretch : (ticks more : List (List Action)) (base : ℕ) (some : List (List Action)) → FollowsFrom ticks base some → FollowsFrom (ticks ++ more) base some
-end_stretch ticks more base some f =
-    let len : length (ticks ++ more) ≡ length ticks + length more = length-append ticks more in
-    record {
-      ended = omega (arith, f.ended);
-      are =
-          f.are
-          ∙ sym
-          (ap (take (length some)) (drop-append-le base ticks more (omega (arith, f.ended))) ∙ take-append-le (length some) (drop base ticks) more (omega (arith, f.ended, length-drop base ticks)));
-    }
+end_stretch ticks more base some f = search (rules, drop-append-le, length-append, length-drop, take-append-le)
 
 pub end_world : (first : List ℕ) (ticks more : List (List Action)) (tick : ℕ) (words : List ℕ) → IsWorldAt first ticks tick words → IsWorldAt first (ticks ++ more) tick words
-end_world first ticks more tick words w =
-    record { ended = omega (arith, w.ended, length-append ticks more); words_are = ap (after_ticks first) (take-append-le tick ticks more w.ended) ∙ w.words_are }
+end_world first ticks more tick words w = search (rules, length-append, take-append-le)
 
 end_before : (ticks more : List (List Action)) (newest base : ℕ) (before : Segment) → LeadsTo ticks newest base before → LeadsTo (ticks ++ more) newest base before
-end_before ticks more newest base ClosedSegment h = tt
-end_before ticks more newest base MalformedSegment h = h
-end_before ticks more newest base (OpenSegment earlier first) h = (h.0, end_stretch ticks more earlier first h.1, h.2)
+end_before ticks more newest base b h = search (rules, end_stretch)
 
 pub end_logs : (ticks more : List (List Action)) (acknowledged newest : ℕ) (logs : Logs) → LogsFollow ticks acknowledged newest logs → LogsFollow (ticks ++ more) acknowledged newest logs
 end_logs ticks more acknowledged newest logs f = record {

@@ -1,4 +1,5 @@
 -- Each event keeps the premises of the law of recovery.
+use Rattle.std.proofs.Common.{rules}
 use Rattle.std.proofs.Common.{◌≡◌, ℕ, ◌+◌, ◌<◌, ◌≤◌, inl, inr, max, List, [], ◌∷◌, ◌++◌, length, Option, Some, None, Ok, refl, sym, ap, subst, ◌∙◌, arith}
 use Rattle.std.proofs.lemmas.List.{append-nil, append_assoc, length-append, length-drop, drop-append-le}
 use Rattle.world_actions.specs.declared.action.Action.{Action}
@@ -9,7 +10,7 @@ use Rattle.image_files.specs.declared.answer.ImageAnswer.TheVariants as answer
 use Rattle.image_files.specs.Images.{Round, Images, ImageFiles, Newest, round_in, with_cell, with_taken, with_round, StepsImages}
 use Rattle.action_log.specs.Logs.{Logs}
 use Rattle.recovery.specs.Recovery.{words_after}
-use Rattle.recovery.specs.Follow.{IsRoundOf, round_tick, base_in, coming, RiseFrom, BeginFrom, FollowMarks}
+use Rattle.recovery.specs.Follow.{IsRoundOf, round_tick, FollowMarks}
 use Rattle.recovery.specs.Events.{ticks_in, switches_in, with_work, IsKept, acknowledged_opened}
 use Rattle.action_log.specs.declared.record.Record.{Record}
 use Rattle.action_log.specs.declared.record.Record.TheVariants as records
@@ -78,42 +79,12 @@ next_switch (records.Switch other ∷ queue) mark = ap (λ l. other ∷ l) (next
 
 mark_follows : (later : List ℕ) (images : Images) (logs : Logs) (mark : ℕ) → FollowMarks later images logs → images.round ≡ None
     → images.tick < mark → logs.base + length (logs.kept ++ logs.pending) ≤ mark → FollowMarks (later ++ mark ∷ []) (with_round_begun images mark) logs
-mark_follows later images logs mark m none above taken =
-    let bases : base_in logs.before ++ logs.base ∷ coming logs.switch later ≡ m.earlier ++ images.tick ∷ [] = subst
-    (λ r. base_in logs.before ++ logs.base ∷ coming logs.switch later ≡ m.earlier ++ images.tick ∷ round_tick r) none m.bases in
-    let more : coming logs.switch later ++ mark ∷ [] ≡ coming logs.switch (later ++ mark ∷ []) = sym (coming_more logs.switch later (mark ∷ [])) in
-    record {
-      earlier = m.earlier;
-      bases = bases_more logs.before logs.base images.tick mark logs.switch later m.earlier bases;
-      rising = subst (RiseFrom logs.base) more (rising_more logs.before logs.base images.tick mark (coming logs.switch later) m.earlier bases above m.rising);
-      in_order = subst (BeginFrom (logs.base + length (logs.kept ++ logs.pending))) more (begin_more (logs.base + length (logs.kept ++ logs.pending)) mark (coming logs.switch later) taken m.in_order);
-    }
+mark_follows later images logs mark m none above taken = search (rules, bases_more, begin_more, coming_more, rising_more)
 
 marked : (first : List ℕ) (ticks : List (List Action)) (acknowledged : ℕ) (images : Images) (logs : Logs) (queue : List Record)
     → IsKept first ticks acknowledged images logs queue → images.round ≡ None → images.tick < length ticks
     → IsKept first ticks acknowledged (with_round_begun images (length ticks)) logs (queue ++ records.Switch (length ticks) ∷ [])
-marked first ticks acknowledged images logs queue k none above =
-    let count : length ticks ≡ k.taken + length (ticks_in queue) = omega (arith, ap length k.left, length-drop k.taken ticks, k.some_taken) in
-    record {
-      worlds =
-          record {
-            some_cells = k.some_cells;
-            last = k.last;
-            accepted = k.accepted;
-            images_follow = record { newest = k.images_follow.newest; before = k.images_follow.before; round = (above, λ full. absurd (omega (arith, full, k.some_cells))) };
-          };
-      logs_follow = k.logs_follow;
-      follow_marks =
-          subst (λ l. FollowMarks l (with_round_begun images (length ticks)) logs) (sym (next_switch queue (length ticks)))
-          (mark_follows (switches_in queue) images logs (length ticks) k.follow_marks none above k.logs_follow.taken.ended);
-      queued = record {
-        taken = k.taken;
-        some_taken = k.some_taken;
-        left = k.left ∙ sym (switch_behind queue (length ticks));
-        numbered = mark_numbered logs.switch k.taken (length ticks) queue count k.numbered;
-        has = has_more logs k.taken images.tick logs.switch queue (records.Switch (length ticks)) k.has;
-      };
-    }
+marked first ticks acknowledged images logs queue k none above = search (rules, has_more, length-drop, mark_follows, mark_numbered, next_switch, switch_behind, with_round_begun)
 
 pub mark_is_made : (first : List ℕ) (ticks : List (List Action)) (acknowledged : ℕ) (images next : Images) (logs : Logs) (queue : List Record)
     → IsKept first ticks acknowledged images logs queue → images.round ≡ None → images.tick < length ticks → with_round (length ticks) (Newest images) ≡ Newest next
@@ -128,14 +99,7 @@ mark_is_made first ticks acknowledged images next logs queue k none above is =
 pub with_words : (first : List ℕ) (ticks : List (List Action)) (acknowledged : ℕ) (images : Images) (logs : Logs) (queue : List Record) (round : Round) (taken : List ℕ)
     → IsKept first ticks acknowledged images logs queue → images.round ≡ Some round → IsRoundOf first ticks images.tick (Some (record round { taken = taken }))
     → IsKept first ticks acknowledged (record images { round = Some (record round { taken = taken }) }) logs queue
-with_words first ticks acknowledged images logs queue round taken k some of =
-    let m = k.follow_marks in
-    record {
-      worlds = record { some_cells = k.some_cells; last = k.last; accepted = k.accepted; images_follow = record { newest = k.images_follow.newest; before = k.images_follow.before; round = of } };
-      logs_follow = k.logs_follow;
-      follow_marks = record { earlier = m.earlier; bases = m.bases ∙ ap (λ r. m.earlier ++ images.tick ∷ round_tick r) some; rising = m.rising; in_order = m.in_order };
-      queued = k.queued;
-    }
+with_words first ticks acknowledged images logs queue round taken k some of = search rules
 
 pub opened_keeps : (first : List ℕ) (ticks : List (List Action)) (acknowledged : ℕ) (images : Images) (logs : Logs) (queue : List Record) (round : Round)
     → IsKept first ticks acknowledged images logs queue → images.round ≡ Some round → length round.taken ≡ length first

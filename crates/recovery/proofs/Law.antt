@@ -1,4 +1,5 @@
 -- The law of recovery: the claims of the two keepers on their files make the four files sound.
+use Rattle.std.proofs.Common.{rules}
 use Rattle.std.proofs.Common.{◌≡◌, ℕ, ◌+◌, ◌<◌, ◌≤◌, ◌⊎◌, inl, inr, Bool, true, false, cond, ltb, ◌||◌, List, [], ◌∷◌, ◌++◌}
 use Rattle.std.proofs.Common.{length, take, drop, Option, Some, None, Ok, Err, refl, sym, ap, subst, ◌∙◌, arith, eq-eqb}
 use Rattle.std.specs.Prelude.{IfSome}
@@ -35,54 +36,39 @@ LeadsOn ticks logs tick =
     ⊎ ((logs.switch ≡ None) × (has_base tick logs.before ≡ true)))
 
 before_behind : (ticks : List (List Action)) (newest base : ℕ) (before : Segment) → LeadsTo ticks newest base before → IsBehind base before
-before_behind ticks newest base ClosedSegment h = closed_behind base
-before_behind ticks newest base MalformedSegment h = absurd h
-before_behind ticks newest base (OpenSegment earlier first) h = earlier_behind base earlier first h.0
+before_behind ticks newest base b h = search (rules, closed_behind, earlier_behind)
 
 other_behind : (ticks : List (List Action)) (newest : ℕ) (logs : Logs) (switch : Option ℕ) (now : Segment)
     → LeadsTo ticks newest logs.base logs.before → IsSwitchOf newest logs switch → IsOther logs.before switch now → IsBehind logs.base now
-other_behind ticks newest logs None now leads at e = subst (λ s. IsBehind logs.base s) (sym e) (before_behind ticks newest logs.base logs.before leads)
-other_behind ticks newest logs (Some t) now leads at (inl e) = subst (λ s. IsBehind logs.base s) (sym e) (before_behind ticks newest logs.base logs.before leads)
-other_behind ticks newest logs (Some t) now leads at (inr (inl e)) = subst (λ s. IsBehind logs.base s) (sym e) (closed_behind logs.base)
-other_behind ticks newest logs (Some t) now leads at (inr (inr e)) = subst (λ s. IsBehind logs.base s) (sym e) (next_behind logs.base t at.0)
+other_behind ticks newest logs b now leads at e = search (rules, before_behind, closed_behind, next_behind)
 
 -- the other segment begins no later than a tick that the current segment's acknowledged ticks and the newest image reach
 before_begins : (ticks : List (List Action)) (newest base n : ℕ) (before : Segment) → LeadsTo ticks newest base before → base ≤ n → BeginsUpTo n before
-before_begins ticks newest base n ClosedSegment h le = tt
-before_begins ticks newest base n MalformedSegment h le = absurd h
-before_begins ticks newest base n (OpenSegment earlier first) h le = omega (arith, h.0, le)
+before_begins ticks newest base n b h le = search rules
 
 reached_begin : (end tick newest n : ℕ) → Reaches end tick newest → end ≤ n → newest ≤ n → tick ≤ n
-reached_begin end tick newest n (inl e) le from = omega (arith, e, le)
-reached_begin end tick newest n (inr h) le from = omega (arith, h.1, from)
+reached_begin end tick newest n b le from = search rules
 
 other_begins : (ticks : List (List Action)) (newest n : ℕ) (logs : Logs) (switch : Option ℕ) (now : Segment)
     → LeadsTo ticks newest logs.base logs.before → IsSwitchOf newest logs switch → IsOther logs.before switch now
     → logs.base + length logs.kept ≤ n → newest ≤ n → BeginsUpTo n now
-other_begins ticks newest n logs None now leads at e le from = subst (BeginsUpTo n) (sym e) (before_begins ticks newest logs.base n logs.before leads (omega (arith, le)))
-other_begins ticks newest n logs (Some t) now leads at (inl e) le from = subst (BeginsUpTo n) (sym e) (before_begins ticks newest logs.base n logs.before leads (omega (arith, le)))
-other_begins ticks newest n logs (Some t) now leads at (inr (inl e)) le from = subst (BeginsUpTo n) (sym e) tt
-other_begins ticks newest n logs (Some t) now leads at (inr (inr e)) le from = subst (BeginsUpTo n) (sym e) (reached_begin (logs.base + length logs.kept) t newest n at.2 le from)
+other_begins ticks newest n logs b now leads at e le from = search (rules, before_begins, reached_begin)
 
 -- up to this tick, or to the newest image's, all acknowledged ones are there
 abbrev pub Reached : (acknowledged end newest : ℕ) → Type 0
 Reached acknowledged end newest = (acknowledged ≤ end) ⊎ (acknowledged ≤ newest)
 
 reached_at : (acknowledged end newest t more : ℕ) → Reached acknowledged end newest → newest ≤ t → end ≤ t + more → acknowledged ≤ t + more
-reached_at acknowledged end newest t more (inl h) from le = omega arith
-reached_at acknowledged end newest t more (inr h) from le = omega arith
+reached_at acknowledged end newest t more b from le = search rules
 
 pub reached_more : (acknowledged end more newest : ℕ) → Reached acknowledged end newest → end ≤ more → Reached acknowledged more newest
-reached_more acknowledged end more newest (inl h) le = inl (omega arith)
-reached_more acknowledged end more newest (inr h) le = inr h
+reached_more acknowledged end more newest b le = search rules
 
 pub reached_fewer : (acknowledged fewer end newest : ℕ) → fewer ≤ acknowledged → Reached acknowledged end newest → Reached fewer end newest
-reached_fewer acknowledged fewer end newest le (inl h) = inl (omega (arith, le, h))
-reached_fewer acknowledged fewer end newest le (inr h) = inr (omega (arith, le, h))
+reached_fewer acknowledged fewer end newest le b = search rules
 
 pub reached_newer : (acknowledged end newest newer : ℕ) → newest ≤ newer → Reached acknowledged end newest → Reached acknowledged end newer
-reached_newer acknowledged end newest newer le (inl h) = inl h
-reached_newer acknowledged end newest newer le (inr h) = inr (omega (arith, h))
+reached_newer acknowledged end newest newer le b = search rules
 
 -- the ticks of the current segment
 record Has (ticks : List (List Action)) (acknowledged newest : ℕ) (logs : Logs) (now : Segment) : Type 0 where
@@ -113,8 +99,7 @@ current_has ticks acknowledged newest logs now f (inr e) =
 
 -- to a base after the newest image's tick the segment before leads with no tick between
 meets : (end base newest : ℕ) → Reaches end base newest → newest < base → end ≡ base
-meets end base newest (inl e) below = e
-meets end base newest (inr h) below = absurd (omega (arith, h.1))
+meets end base newest b below = search rules
 
 -- from the tick of the segment before
 from_before : (ticks : List (List Action)) (acknowledged newest t base : ℕ) (here : List (List Action)) (before : Segment)
@@ -293,18 +278,13 @@ image_pair first ticks tick words before (Some round) now at h r (inr (inr e)) =
 -- ---- together
 
 or_false : (x y : Bool) → x ≡ false → y ≡ false → (x || y) ≡ false
-or_false true y h k = absurd cc
-or_false false y h k = k
+or_false b y h k = search rules
 
 well_formed : (first : List ℕ) (ticks : List (List Action)) (most : ℕ) (image : Image) → HoldsWorld first ticks most image → is_bad_image image ≡ false
-well_formed first ticks most Closed h = refl
-well_formed first ticks most Bad h = absurd h
-well_formed first ticks most (Open s v) h = refl
+well_formed first ticks most b h = search rules
 
 still_holds : (first : List ℕ) (ticks : List (List Action)) (most more : ℕ) (image : Image) → most ≤ more → HoldsWorld first ticks most image → HoldsWorld first ticks more image
-still_holds first ticks most more Closed le h = tt
-still_holds first ticks most more Bad le h = h
-still_holds first ticks most more (Open s v) le h = (omega (arith, h.0), h.1)
+still_holds first ticks most more b le h = search rules
 
 -- the replay on the picked image is a sound reading
 pub picked_reading : (first : List ℕ) (ticks : List (List Action)) (acknowledged t : ℕ) (image_a image_b : Image)
@@ -350,8 +330,7 @@ sound_reading first ticks acknowledged t last image_a image_b log_a log_b all p 
 -- ---- the bases
 
 pub begins : (low : ℕ) (ticks : List ℕ) → RiseFrom low ticks → BeginFrom low ticks
-begins low [] rise = tt
-begins low (tick ∷ ticks) rise = omega (arith, rise.0)
+begins low b rise = search rules
 
 -- a switch to come is past all that the current segment has
 past : (low end t : ℕ) (front after to_come : List ℕ) → to_come ≡ front ++ t ∷ after → RiseFrom low to_come → BeginFrom end to_come → (low < t) × (end ≤ t)

@@ -1,4 +1,5 @@
 -- Each event of a start keeps the premises of its law.
+use Rattle.std.proofs.Common.{rules}
 use Rattle.std.proofs.Common.{◌≡◌, ℕ, ◌<◌, ◌≤◌, ◌⊎◌, inl, inr, true, max, List, [], ◌∷◌, length, Option, Some, None, Ok, refl, sym, ap, subst, ◌∙◌, arith}
 use Rattle.std.specs.Prelude.{option_map}
 use Rattle.std.proofs.lemmas.List.{drop_all}
@@ -18,7 +19,7 @@ use Rattle.recovery.specs.Sound.{IsWorldAt, BeginsUpTo, IsSound}
 use Rattle.recovery.specs.Follow.{IsRoundOf, round_tick}
 use Rattle.recovery.specs.Start.{IsStarting, IsFirstRound, FirstFollows}
 use Rattle.recovery.specs.Events.{IsKept, acknowledged_opened}
-use Rattle.recovery.proofs.Starting.{IsStartRound, start_is_sound}
+use Rattle.recovery.proofs.Starting.{start_is_sound}
 use Rattle.recovery.proofs.Events.{with_round_begun, with_round_opened, opened_follows}
 use Rattle.recovery.proofs.Restart.{first_at}
 
@@ -26,50 +27,23 @@ pub starting_is_sound : (image_a image_b log_a log_b : List ℕ → Type 0)
     → (first : List ℕ) (ticks : List (List Action)) (acknowledged : ℕ) (images : Images) (from : ℕ) (start : Start)
     → IsStarting first ticks acknowledged images from start → ImagesAre (length first) images image_a image_b
     → StartLogsAre start log_a log_b → IsSound image_a image_b log_a log_b first ticks acknowledged
-starting_is_sound image_a image_b log_a log_b first ticks acknowledged images from start s ai al =
-    start_is_sound image_a image_b log_a log_b first ticks acknowledged s.last images from start s.accepted s.images_follow s.start_follows ai al
+starting_is_sound image_a image_b log_a log_b first ticks acknowledged images from start s ai al = search (rules, start_is_sound)
 
 pub start_round_begins : (first : List ℕ) (ticks : List (List Action)) (acknowledged : ℕ) (images next : Images) (from : ℕ) (start : Start)
     → 1 ≤ length first → IsStarting first ticks acknowledged images from start → images.tick < start.tick
     → with_round start.tick (Newest images) ≡ Newest next → IsStarting first ticks acknowledged next from start
-start_round_begins first ticks acknowledged images next from start some s below is =
-    let f = s.start_follows in
-    let same : with_round_begun images start.tick ≡ next = cc in
-    let begun : IsStarting first ticks acknowledged (with_round_begun images start.tick) from start = record {
-      last = s.last;
-      accepted = s.accepted;
-      images_follow = record { newest = s.images_follow.newest; before = s.images_follow.before; round = (below, λ full. absurd (omega (arith, full, some))) };
-      start_follows = record { leads = f.leads; acknowledges = f.acknowledges; image = f.image; round = refl };
-    } in
-    subst (λ i. IsStarting first ticks acknowledged i from start) same begun
+start_round_begins first ticks acknowledged images next from start some s below is = search (rules, with_round_begun)
 
 -- the round in work has another word, and the same tick
 start_words : (first : List ℕ) (ticks : List (List Action)) (acknowledged : ℕ) (images : Images) (from : ℕ) (start : Start) (round : Round) (taken : List ℕ)
     → IsStarting first ticks acknowledged images from start → images.round ≡ Some round → IsRoundOf first ticks images.tick (Some (record round { taken = taken }))
     → IsStarting first ticks acknowledged (record images { round = Some (record round { taken = taken }) }) from start
-start_words first ticks acknowledged images from start round taken s some of =
-    let f = s.start_follows in
-    let at : IsStartRound start.tick (Some round) = subst (IsStartRound start.tick) some f.round in
-    record {
-      last = s.last;
-      accepted = s.accepted;
-      images_follow = record { newest = s.images_follow.newest; before = s.images_follow.before; round = of };
-      start_follows = record { leads = f.leads; acknowledges = f.acknowledges; image = f.image; round = at };
-    }
+start_words first ticks acknowledged images from start round taken s some of = search rules
 
 start_opened : (first : List ℕ) (ticks : List (List Action)) (acknowledged : ℕ) (images : Images) (from : ℕ) (start : Start) (round : Round)
     → IsStarting first ticks acknowledged images from start → images.round ≡ Some round → length round.taken ≡ length first
     → IsStarting first ticks (max acknowledged round.tick) (with_round_opened images round) from start
-start_opened first ticks acknowledged images from start round s some whole =
-    let f = s.start_follows in
-    let at : IsStartRound start.tick (Some round) = subst (IsStartRound start.tick) some f.round in
-    let of : IsRoundOf first ticks images.tick (Some round) = subst (IsRoundOf first ticks images.tick) some s.images_follow.round in
-    record {
-      last = s.last;
-      accepted = s.accepted;
-      images_follow = opened_follows first ticks images round s.images_follow of whole;
-      start_follows = record { leads = f.leads; acknowledges = omega (arith, f.acknowledges, at); image = inl at; round = tt };
-    }
+start_opened first ticks acknowledged images from start round s some whole = search (rules, opened_follows)
 
 module _ {S : Type 0} (took : S → Option Taken → S → Type 0) where
   pub start_image_step_keeps : (first : List ℕ) (ticks : List (List Action)) (acknowledged : ℕ) (images : Images) (from : ℕ) (start : Start)
@@ -93,14 +67,7 @@ module _ {S : Type 0} (took : S → Option Taken → S → Type 0) where
 
 start_log_begins : (first : List ℕ) (ticks : List (List Action)) (acknowledged : ℕ) (images : Images) (from : ℕ) (start : Start)
     → IsStarting first ticks acknowledged images from start → images.tick ≡ start.tick → IsStarting first ticks acknowledged images from (record start { begun = true })
-start_log_begins first ticks acknowledged images from start s at =
-    let f = s.start_follows in
-    record {
-      last = s.last;
-      accepted = s.accepted;
-      images_follow = s.images_follow;
-      start_follows = record { leads = f.leads; acknowledges = f.acknowledges; image = inl at; round = f.round };
-    }
+start_log_begins first ticks acknowledged images from start s at = search rules
 
 start_ends : (first : List ℕ) (ticks : List (List Action)) (acknowledged : ℕ) (images : Images) (from : ℕ) (start : Start)
     → 1 ≤ length first → IsStarting first ticks acknowledged images from start → images.tick ≡ start.tick → images.round ≡ None

@@ -1,4 +1,5 @@
 -- Each step of the log keeper keeps the facts that hold between any two events.
+use Rattle.std.proofs.Common.{rules}
 use Rattle.std.proofs.Common.{◌≡◌, ℕ, ◌+◌, ◌≤◌, max, inl, inr, List, [], ◌∷◌, ◌++◌, length, drop, Some, refl, sym, ap, subst, ◌∙◌, arith}
 use Rattle.std.proofs.lemmas.List.{append-nil, length-append, length-drop, drop_at, drop-drop}
 use Rattle.world_actions.specs.declared.action.Action.{Action}
@@ -82,38 +83,11 @@ module _ (first : List ℕ) (ticks : List (List Action)) (acknowledged : ℕ) (i
       }
 
   switch_reaches : (mark taken newest : ℕ) (queue : List Record) → mark ≡ taken → logs.pending ≡ [] → HasUpTo logs taken newest queue → Reaches (logs.base + length logs.kept) mark newest
-  switch_reaches mark taken newest queue e none (inl h) = inl (sym (idle_count logs none) ∙ h ∙ sym e)
-  switch_reaches mark taken newest queue e none (inr h) = inr (omega (arith, e, h.1), omega (arith, e, h.2))
+  switch_reaches mark taken newest queue e none b = search (rules, idle_count)
 
   pub keeps_switch_begun : (mark : ℕ) (left : List Record)
       → IsKept first ticks acknowledged images logs (records.Switch mark ∷ left) → is_idle logs → IsKept first ticks acknowledged images (with_switch logs mark) left
-  keeps_switch_begun mark left k idle =
-      let f = k.logs_follow in
-      let m = k.follow_marks in
-      let numbered = idle_numbered (records.Switch mark ∷ left) k idle in
-      let rise = idle_rising (records.Switch mark ∷ left) k idle in
-      record {
-        worlds = k.worlds;
-        logs_follow = record {
-          taken = f.taken;
-          acknowledges = f.acknowledges;
-          before = f.before;
-          switch = (rise.0, idle.0, switch_reaches mark k.taken images.tick (records.Switch mark ∷ left) numbered.0 idle.0 (idle_has (records.Switch mark ∷ left) k idle));
-        };
-        follow_marks = record {
-          earlier = m.earlier;
-          bases = idle_bases (records.Switch mark ∷ left) k idle;
-          rising = rise;
-          in_order = subst (λ o. BeginFrom (logs.base + length (logs.kept ++ logs.pending)) (coming o (mark ∷ switches_in left))) idle.1 m.in_order;
-        };
-        queued = record {
-          taken = k.taken;
-          some_taken = k.some_taken;
-          left = k.left;
-          numbered = numbered;
-          has = idle_has (records.Switch mark ∷ left) k idle;
-        };
-      }
+  keeps_switch_begun mark left k idle = search (rules, idle_bases, idle_has, idle_numbered, idle_rising, switch_reaches)
 
   -- the ticks of a closed segment reach up to the next one's base
   switch_kept : (mark newest : ℕ) → Reaches (logs.base + length logs.kept) mark newest → Reached acknowledged (logs.base + length logs.kept) newest → Reached acknowledged (mark + 0) newest
@@ -168,9 +142,7 @@ module _ (first : List ℕ) (ticks : List (List Action)) (acknowledged : ℕ) (i
 
   switching_keeps : (queue : List Record) (next : Logs) (left : List Record) → IsKept first ticks acknowledged images logs queue
       → EndsSwitch logs queue next left → IsKept first ticks acknowledged images next left
-  switching_keeps queue next left k s =
-      subst (λ l. IsKept first ticks acknowledged images l left) (sym s.is)
-      (subst (λ q. IsKept first ticks acknowledged images (switched_to logs s.tick) q) (sym s.queue_is) (keeps_switched s.tick queue k s.in_work))
+  switching_keeps queue next left k s = search (rules, keeps_switched)
 
   -- if a group is in work, the segment has with it all ticks before the queue
   group_taken : (queue : List Record) (k : IsKept first ticks acknowledged images logs queue) → 1 ≤ length logs.pending → logs.base + length (logs.kept ++ logs.pending) ≡ k.taken
@@ -302,9 +274,4 @@ module _ (first : List ℕ) (ticks : List (List Action)) (acknowledged : ℕ) (i
 
   pub receipt_is_exact : (queue : List Record) (given : LogAnswer) (next : Logs) (left : List Record)
       → IsKept first ticks acknowledged images logs queue → LogsStep logs queue given next left → ReceiptIs given ticks left
-  receipt_is_exact queue answer.Idle next left k s = tt
-  receipt_is_exact queue answer.Working next left k s = tt
-  receipt_is_exact queue (answer.Acked tick) next left k a =
-      let wait : length (ticks_in left) ≡ length (drop k.taken ticks) = ap (λ q. length (ticks_in q)) a.queue_is ∙ ap length (sym k.left) in
-      omega (arith, a.tick_is, group_taken queue k a.some, wait, length-drop k.taken ticks, k.some_taken)
-  receipt_is_exact queue answer.Down next left k s = tt
+  receipt_is_exact queue b next left k s = search (rules, group_taken, length-drop)

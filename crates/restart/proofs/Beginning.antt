@@ -1,16 +1,15 @@
 -- A start begins in step with the ticks that it keeps.
-use Rattle.std.proofs.Common.{◌≡◌, ℕ, ◌≤◌, inl, inr, Bool, true, false, nat_lt, lt-ltb, ltb-true, List, [], length, take, Some, None, refl, sym, ap, ◌∙◌, arith}
+use Rattle.std.proofs.Common.{rules}
+use Rattle.std.proofs.Common.{◌≡◌, ℕ, ◌≤◌, inl, inr, Bool, true, false, nat_lt, lt-ltb, ltb-true, List, [], length, take, Some, None, refl, sym, ◌∙◌, arith}
 use Rattle.std.proofs.lemmas.Bool.{cases_lt}
 use Rattle.std.proofs.lemmas.List.{take_all, length-take-le}
 use Rattle.world_actions.specs.declared.action.Action.{Action}
-use Rattle.world_ticks.specs.After.{after_ticks}
 use Rattle.capture_core.specs.Content.{Content, Takes}
 use Rattle.image_files.specs.Image.{Image}
 use Rattle.image_files.specs.Images.{NoneYet, Newest}
 use Rattle.action_log.specs.Segment.{Segment, ClosedSegment}
 use Rattle.action_log.specs.Logs.{InStart}
 use Rattle.recovery.specs.Recovery.{Recovery}
-use Rattle.recovery.specs.Sound.{IsWorldAt}
 use Rattle.recovery.specs.Events.{StartEventsKeep}
 use Rattle.recovery.specs.Restart.{Restarts, recovered_images, recovered_start}
 use Rattle.restart.specs.Start.{IsBuilt, images_begun}
@@ -46,16 +45,7 @@ pub recovery_begins : StartEventsKeep Takes → (first : List ℕ) (ticks : List
     → 1 ≤ length first → Restarts first ticks acknowledged r image_a image_b log_a log_b → IsBuilt r.words (nat_lt r.from r.tick) content
     → InStep first (take r.tick ticks) acknowledged content
     (images_begun (nat_lt r.from r.tick) r.tick (Newest (recovered_images r image_a image_b))) (InStart (recovered_start r log_a log_b)) []
-recovery_begins begins first ticks acknowledged r image_a image_b log_a log_b content some s built =
-    let count : length (take r.tick ticks) ≡ r.tick = length-take-le r.tick ticks s.world.ended in
-    let at : IsWorldAt first (take r.tick ticks) r.tick r.words = record {
-      ended = omega (arith, count);
-      words_are = ap (after_ticks first) (take_all r.tick (take r.tick ticks) (omega (arith, count))) ∙ s.world.words_are;
-    } in
-    record {
-      store = built_follows first (take r.tick ticks) r.tick r.words (nat_lt r.from r.tick) content (Newest (recovered_images r image_a image_b)) s.whole at refl built;
-      phase = recovered_phase begins first ticks acknowledged r image_a image_b log_a log_b some s (nat_lt r.from r.tick) refl;
-    }
+recovery_begins begins first ticks acknowledged r image_a image_b log_a log_b content some s built = search (rules, built_follows, length-take-le, recovered_phase, take_all)
 
 pub fresh_begins : (first : List ℕ) (content : Content) → 1 ≤ length first → IsBuilt first true content
     → InStep first [] 0 content (images_begun true 0 (NoneYet (record { round = None })))

@@ -1,5 +1,6 @@
 pub mod Beginning
 pub mod Begun
+pub mod Calling
 pub mod Gates
 pub mod Marked
 pub mod Played

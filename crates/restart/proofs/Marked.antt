@@ -1,10 +1,10 @@
 -- A mark begins a round, and writes and ticks leave it.
+use Rattle.std.proofs.Common.{rules}
 use Rattle.std.proofs.Common.{◌≡◌, ℕ, suc, ◌⊎◌, inl, inr, List, [], ◌∷◌, ◌++◌, length, drop, get_or, Option, Some, None, refl, sym, ap, ◌∙◌, arith}
 use Rattle.std.specs.Prelude.{slice_get}
 use Rattle.std.proofs.lemmas.List.{length-append, take-append-le}
 use Rattle.std.proofs.lemmas.Option.{get_or_from_slice_get}
 use Rattle.world_actions.specs.declared.action.Action.{Action}
-use Rattle.world_ticks.specs.After.{after_ticks}
 use Rattle.capture_core.specs.Taken.{taken_of}
 use Rattle.capture_core.specs.Content.{Content, Marks, Covers}
 use Rattle.image_files.specs.Taken.{word_of}
@@ -16,14 +16,10 @@ use Rattle.restart.specs.Rounds.{words_left, StoreFollows, StoreFollowsImages, w
 
 first_word : (entry : Option ℕ) (newest : List ℕ) (word : ℕ) → (Some entry ≡ Some (Some word))
     ⊎ ((Some entry ≡ Some None) × (slice_get newest 0 ≡ Some word)) → word_of (taken_of entry) (get_or newest 0 0) ≡ word
-first_word (Some v) newest word (inl e) = cc
-first_word None newest word (inl e) = absurd cc
-first_word (Some v) newest word (inr e) = (let no = e.0 in absurd cc)
-first_word None newest word (inr e) = get_or_from_slice_get newest 0 word 0 e.1
+first_word b newest word d = search (rules, get_or_from_slice_get)
 
 get_past_one : (newest : List ℕ) (i : ℕ) → slice_get newest (suc i) ≡ slice_get (drop 1 newest) i
-get_past_one [] i = refl
-get_past_one (word ∷ newest) i = refl
+get_past_one b i = search rules
 
 mark_words : (left : List (Option ℕ)) (live newest : List ℕ) → length left ≡ length live
     → ((i word : ℕ) → slice_get live i ≡ Some word → (slice_get left i ≡ Some (Some word)) ⊎ ((slice_get left i ≡ Some None) × (slice_get newest i ≡ Some word)))
@@ -54,9 +50,7 @@ mark_follows first ticks tick newest old new all at covers m = (
 writes_store : (first : List ℕ) (ticks : List (List Action)) (old new : Content) (newest : List ℕ) (round : Option Round)
     → new.left ≡ old.left → ((image : List ℕ) → Covers image old → Covers image new)
     → StoreFollows first ticks old newest round → StoreFollows first ticks new newest round
-writes_store first ticks old new newest None left covers s = (left ∙ s.0, covers newest s.1)
-writes_store first ticks old new newest (Some round) left covers s =
-    (s.0, s.1, record { whole = s.2.whole; words = ap (λ l. round.taken ++ words_left l (drop (length round.taken) newest)) left ∙ s.2.words; covers = covers s.0 s.2.covers })
+writes_store first ticks old new newest b left covers s = search rules
 
 pub writes_follow : (first : List ℕ) (ticks : List (List Action)) (old new : Content) (images : ImageFiles) → new.left ≡ old.left → ((image : List ℕ) → Covers image old → Covers image new)
     → StoreFollowsImages first ticks old images → StoreFollowsImages first ticks new images
@@ -66,9 +60,7 @@ writes_follow first ticks old new images = writes_store first ticks old new (wor
 
 ticks_store : (first : List ℕ) (ticks more : List (List Action)) (content : Content) (newest : List ℕ) (round : Option Round)
     → StoreFollows first ticks content newest round → StoreFollows first (ticks ++ more) content newest round
-ticks_store first ticks more content newest None s = s
-ticks_store first ticks more content newest (Some round) s =
-    (s.0, record { ended = omega (arith, s.1.ended, length-append ticks more); words_are = ap (after_ticks first) (take-append-le round.tick ticks more s.1.ended) ∙ s.1.words_are }, s.2)
+ticks_store first ticks more content newest b s = search (rules, length-append, take-append-le)
 
 pub ticks_follow : (first : List ℕ) (ticks more : List (List Action)) (content : Content) (images : ImageFiles)
     → StoreFollowsImages first ticks content images → StoreFollowsImages first (ticks ++ more) content images

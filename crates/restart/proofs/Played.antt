@@ -1,6 +1,6 @@
 -- Ticks and marks keep a world in step, and a log with no work left has acknowledged all.
+use Rattle.std.proofs.Common.{rules}
 use Rattle.std.proofs.Common.{◌≡◌, ℕ, ◌+◌, ◌<◌, ◌≤◌, ◌⊎◌, inl, inr, List, [], ◌∷◌, ◌++◌, length, Some, None, Result, Ok, refl, sym, ap, subst, ◌∙◌, arith}
-use Rattle.std.specs.List.{flat_map}
 use Rattle.std.proofs.lemmas.Grind.{flat_map-append}
 use Rattle.std.proofs.lemmas.List.{take_all, append-nil, length-drop}
 use Rattle.world_actions.specs.declared.action.Action.{Action}
@@ -27,10 +27,7 @@ ok_injective v w e = cc
 one_more : ((world : List ℕ) (before after : List Action) → after_actions world (before ++ after) ≡ and_then (after_actions world before) (λ next. after_actions next after))
     → (first : List ℕ) (ticks : List (List Action)) (tick : List Action) (last live : List ℕ) → after_ticks first ticks ≡ Ok last
     → after_actions last tick ≡ Ok live → after_ticks first (ticks ++ tick ∷ []) ≡ Ok live
-one_more append first ticks tick last live e h =
-    ap (after_actions first) (flat_map-append (λ t. t) ticks (tick ∷ []) ∙ ap (λ l. flat_map (λ t. t) ticks ++ l) (append-nil tick))
-    ∙ append first (flat_map (λ t. t) ticks) tick
-    ∙ ap (λ r. and_then r (λ next. after_actions next tick)) e ∙ h
+one_more append first ticks tick last live e h = search (rules, append-nil, flat_map-append)
 
 tick_phase : EventsKeep Takes → (first : List ℕ) (ticks : List (List Action)) (acknowledged : ℕ) (images : ImageFiles) (logs : Logs) (queue : List Record) (tick : Actions) (live next : List ℕ)
     → after_ticks first ticks ≡ Ok live → after_actions live tick.list ≡ Ok next → HasPhase first ticks acknowledged images (Writing logs) queue

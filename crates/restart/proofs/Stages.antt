@@ -1,4 +1,5 @@
 -- The steps of the keepers keep a world in step.
+use Rattle.std.proofs.Common.{rules}
 use Rattle.std.proofs.Common.{◌≡◌, ℕ, ◌≤◌, inl, inr, Bool, true, false, List, [], Option, Some, None, option_map, refl, sym, ap, subst, ◌∙◌, length}
 use Rattle.std.specs.Prelude.{IfSome}
 use Rattle.world_actions.specs.declared.action.Action.{Action}
@@ -60,8 +61,7 @@ unfolding images_tick
 tick_same after images e = ap images_tick e
 
 none_open : (cell : Taken) (newest : List ℕ) (round : Option Round) (r : Round) → round ≡ Some r → option_map (with_cell cell newest) round ≡ None → ⊥
-none_open cell newest None r e h = absurd (let g = e in cc)
-none_open cell newest (Some round) r e h = absurd (let g = h in cc)
+none_open cell newest b r e h = search rules
 
 start_tick : {tick : ℕ} {round : Option Round} {r : Round} → IfSome round (λ (some : Round). some.tick ≡ tick) → round ≡ Some r → r.tick ≡ tick
 start_tick {tick} {round} {r} h e = (let g : r.tick ≡ tick = subst (λ (o : Option Round). IfSome o (λ (some : Round). some.tick ≡ tick)) e h in g)
@@ -84,11 +84,7 @@ caught first ticks acknowledged from old new image_answer.Down images start next
 still_none : (cells : ℕ) (old new : Content) (acknowledged : ℕ) (given : ImageAnswer) (images : FirstImages) (next : ImageFiles)
     (after : FirstImages) → StepsImages Takes cells (NoneYet images) given next old new → next ≡ NoneYet after
     → acknowledged_opened acknowledged given ≡ acknowledged
-still_none cells old new acknowledged image_answer.Idle images next after s e = refl
-still_none cells old new acknowledged image_answer.Working images next after s e = refl
-still_none cells old new acknowledged (image_answer.Opened tick) images next after s e =
-    absurd (let g : true ≡ false = sym (opened_newest s.0 images) ∙ ap is_newest (sym s.4 ∙ e) ∙ newest_none after in cc)
-still_none cells old new acknowledged image_answer.Down images next after s e = refl
+still_none cells old new acknowledged b images next after s e = search (rules, is_newest)
 
 module _ (kept_by : EventsKeep Takes) (started_by : StartEventsKeep Takes) (first : List ℕ) (ticks : List (List Action)) (acknowledged : ℕ) where
   image_phase : (images : ImageFiles) (journal : Journal) (queue : List Record) (given : ImageAnswer) (next : ImageFiles)
@@ -160,10 +156,7 @@ start_same start left (log_answer.Acked tick) next after s e = absurd s
 start_same start left log_answer.Down next after s e = same_start after (record start { begun = true }) (sym e ∙ ap (λ (p : LogPlace). p.journal) s.1)
 
 start_unacknowledged : (acknowledged : ℕ) (start : Start) (left : ℕ) (given : LogAnswer) (next : LogPlace) → StartStep start left given next → acknowledged_after acknowledged given ≡ acknowledged
-start_unacknowledged acknowledged start left log_answer.Idle next s = absurd s
-start_unacknowledged acknowledged start left log_answer.Working next s = refl
-start_unacknowledged acknowledged start left (log_answer.Acked tick) next s = absurd s
-start_unacknowledged acknowledged start left log_answer.Down next s = refl
+start_unacknowledged acknowledged start left b next s = search rules
 
 module _ (kept_by : EventsKeep Takes) (started_by : StartEventsKeep Takes) (first : List ℕ) (ticks : List (List Action)) (acknowledged : ℕ) where
   -- in the start, once the newest image is of its tick
@@ -202,8 +195,7 @@ module _ (kept_by : EventsKeep Takes) (started_by : StartEventsKeep Takes) (firs
       (next : LogPlace) (queue_left : List Record) → 1 ≤ length first → NoneWaitedFor place.journal images
       → JournalStep place queue given next queue_left → InStep first ticks acknowledged content images place.journal queue
       → InStep first ticks (acknowledged_after acknowledged given) content images next.journal queue_left
-  log_step content images place queue given next queue_left some waits s w =
-      record { store = w.store; phase = log_phase images place.journal place.left queue given next queue_left some waits s w.phase }
+  log_step content images place queue given next queue_left some waits s w = search (rules, log_phase)
 
 -- ---- a cover
 

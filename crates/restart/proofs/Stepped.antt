@@ -1,4 +1,5 @@
 -- Takes and openings keep the facts on the store and the round.
+use Rattle.std.proofs.Common.{rules}
 use Rattle.std.proofs.Common.{◌≡◌, ℕ, ◌+◌, ◌<◌, inl, inr, List, [], ◌∷◌, ◌++◌, length, take, drop, get_or, Option, Some, None, option_map, Result, Ok, refl, sym, ap, subst, ◌∙◌, append_assoc, arith}
 use Rattle.std.specs.Prelude.{slice_get}
 use Rattle.std.proofs.lemmas.List.{take_all, take_at, length-append, append-nil, drop-drop, get_or-drop}
@@ -25,10 +26,7 @@ whole_front front rest whole e l = sym (take_at front rest (length front) refl) 
 
 head_taken : (left : List (Option ℕ)) (cell : Taken) (newest : List ℕ) → Some cell ≡ option_map taken_of (slice_get left 0)
     → words_left left newest ≡ word_of cell (get_or newest 0 0) ∷ words_left (drop 1 left) (drop 1 newest)
-head_taken [] cell newest e = absurd (let h = e in cc)
-head_taken (entry ∷ left) cell newest e =
-    let same : taken_of entry ≡ cell = cc in
-    ap (λ c. word_of c (get_or newest 0 0) ∷ words_left left (drop 1 newest)) same
+head_taken b cell newest e = search rules
 
 takes_round : (cells : ℕ) (newest taken marked : List ℕ) (old new : Content) (cell : Taken) → Takes old (Some cell) new → IsRoundOver cells newest taken marked old
     → IsRoundOver cells newest (taken ++ word_of cell (get_or newest (length taken) 0) ∷ []) marked new
@@ -51,8 +49,7 @@ takes_round cells newest taken marked old new cell t r =
 
 takes_store : (first : List ℕ) (ticks : List (List Action)) (old new : Content) (cell : Taken) (newest : List ℕ)
     (round : Option Round) → Takes old (Some cell) new → StoreFollows first ticks old newest round → StoreFollows first ticks new newest (option_map (with_cell cell newest) round)
-takes_store first ticks old new cell newest None t s = (let no : Some cell ≡ None = t.gives ∙ ap (λ l. option_map taken_of (slice_get l 0)) s.0 in absurd cc)
-takes_store first ticks old new cell newest (Some round) t s = (s.0, s.1, takes_round (length first) newest round.taken s.0 old new cell t s.2)
+takes_store first ticks old new cell newest b t s = search (rules, takes_round)
 
 taken_follows : (first : List ℕ) (ticks : List (List Action)) (old new : Content) (cell : Taken) (images : ImageFiles)
     → Takes old (Some cell) new → StoreFollowsImages first ticks old images → StoreFollowsImages first ticks new (with_taken cell images)
@@ -117,11 +114,7 @@ module _ {S : Type 0} (content : S → Content) (took : S → Option Taken → S
     (after_take : (old new : S) (given : Option Taken) → took old given new → Takes (content old) given (content new)) where
   pub steps_content : (cells : ℕ) (images : ImageFiles) (given : ImageAnswer) (next : ImageFiles) (old new : S)
       → StepsImages took cells images given next old new → StepsImages Takes cells images given next (content old) (content new)
-  steps_content cells images answer.Idle next old new s = (s.0, s.1, ap content s.2)
-  steps_content cells images answer.Working next old new s =
-      (s.0, s.1, elim s.2 [ inl same ↦ inl (same.0, ap content same.1) | inr cell ↦ inr (cell.0, after_take old new (Some cell.0) cell.1, cell.2) ])
-  steps_content cells images (answer.Opened tick) next old new s = (s.0, s.1, s.2, s.3, s.4, ap content s.5)
-  steps_content cells images answer.Down next old new s = (s.0, s.1, s.2, ap content s.3)
+  steps_content cells images b next old new s = search rules
 
 -- ---- the round in work
 
@@ -136,12 +129,10 @@ taken_ticks : (cell : Taken) (newest : List ℕ) (round : Round) (now : Option R
 taken_ticks cell newest round now is r e = ap tick_of (sym e ∙ ap (option_map (with_cell cell newest)) is)
 
 with_taken_ticks : (cell : Taken) (images : ImageFiles) (round : Round) → round_in images ≡ Some round → (r : Round) → round_in (with_taken cell images) ≡ Some r → r.tick ≡ round.tick
-with_taken_ticks cell (NoneYet images) round is = taken_ticks cell [] round images.round is
-with_taken_ticks cell (Newest images) round is = taken_ticks cell images.words round images.round is
+with_taken_ticks cell b round is = search (rules, taken_ticks)
 
 with_opened_none : (round : Round) (images : ImageFiles) → round_in (with_opened round images) ≡ None
-with_opened_none round (NoneYet images) = refl
-with_opened_none round (Newest images) = refl
+with_opened_none round b = search rules
 
 -- a round that is in work after a step was in work before it, with the same tick
 step_ticks : (cells : ℕ) (old new : Content) (images : ImageFiles) (given : ImageAnswer) (next : ImageFiles) → StepsImages Takes cells images given next old new
@@ -170,8 +161,7 @@ round_store first ticks tick content newest (Some round) above s =
 pub round_follows : (first : List ℕ) (ticks : List (List Action)) (images : Images) (given : ImageAnswer) (next : ImageFiles)
     (old new : Content) → StepsImages Takes (length first) (Newest images) given next old new → IsRoundOf first ticks images.tick images.round
     → StoreFollowsImages first ticks new next → IsRoundOf first ticks images.tick (round_in next)
-round_follows first ticks images given next old new s h = round_store first ticks images.tick new (words_of next) (round_in next)
-    (λ r e. let was = step_ticks (length first) old new (Newest images) given next s r e in let above = round_above first ticks images.tick images.round was.0 was.1 h in omega (arith, was.2, above))
+round_follows first ticks images given next old new s h = search (rules, round_above, round_store, step_ticks)
 
 ok_injective : (v w : List ℕ) → ◌≡◌ {A = Result (List ℕ) Refusal} (Ok v) (Ok w) → v ≡ w
 ok_injective v w e = cc
@@ -189,5 +179,4 @@ round_zero first round r is h = (let g : IsFirstRound first (Some r) = subst (Is
 pub first_round_follows : (first : List ℕ) (images : FirstImages) (given : ImageAnswer) (next : ImageFiles) (old new : Content)
     → StepsImages Takes (length first) (NoneYet images) given next old new → IsFirstRound first images.round
     → StoreFollowsImages first [] new next → IsFirstRound first (round_in next)
-first_round_follows first images given next old new s h = first_store first new (words_of next) (round_in next)
-    (λ r e. let was = step_ticks (length first) old new (NoneYet images) given next s r e in was.2 ∙ round_zero first images.round was.0 was.1 h)
+first_round_follows first images given next old new s h = search (rules, first_store, round_zero, step_ticks)

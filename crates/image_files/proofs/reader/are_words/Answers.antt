@@ -1,4 +1,5 @@
-use Rattle.std.proofs.Common.{◌≡◌, true, false, get_or, sym, ◌∙◌, ap, arith}
+use Rattle.std.proofs.Common.{rules}
+use Rattle.std.proofs.Common.{◌≡◌, false, get_or, sym, ◌∙◌, ap, arith}
 use Rattle.std.proofs.lemmas.List.Folds.{list_all_at}
 use Rattle.image_files.specs.Image.{is_word, words_from}
 use Rattle.image_files.proofs.WordLemmas.{length-words_from, get_or-words_from, words_pass-more}
@@ -13,7 +14,4 @@ returns-then-not-is_word c =
     sym (list_all_at is_word words i 0 (omega (arith, length-words_from c.args.bytes.now 17 c.args.cells)) (ap is_word word ∙ above))
 
 pub loop-i-preserved : goal.loop-i-preserved
-loop-i-preserved c =
-    let i = c.loop-i.i in
-    let here : is_word c.u64_at.result ≡ true = cc in
-    words_pass-more c.args.bytes.now 17 i c.u64_at.result c.loop-i.invariant c.u64_at.ensures here
+loop-i-preserved c = search (rules, words_pass-more)

@@ -1,4 +1,4 @@
-use Rattle.std.proofs.Common.{◌≡◌, true, false, length, get_or, sym, ◌∙◌, ap, arith, rules}
+use Rattle.std.proofs.Common.{◌≡◌, false, get_or, sym, ◌∙◌, ap, arith, rules}
 use Rattle.std.proofs.lemmas.List.Folds.{list_all_at}
 use Rattle.image_files.specs.Image.{is_word, words_from}
 use Rattle.image_files.proofs.WordLemmas.{length-words_from, get_or-words_from, words_from-more, words_pass-more}
@@ -13,18 +13,7 @@ returns-then-not-is_word-clause-judged c =
     sym (list_all_at is_word words i 0 (omega (arith, length-words_from c.args.bytes.now 17 c.args.cells)) (ap is_word word ∙ above))
 
 pub loop-i-preserved : goal.loop-i-preserved
-loop-i-preserved c =
-    let so_far = c.loop-i.invariant in
-    let i = c.loop-i.i in
-    let here : is_word c.u64_at-word.result ≡ true = cc in record {
-      put = words_from-more c.args.bytes.now c.loop-i.words.items 17 i c.u64_at-word.result so_far.put c.u64_at-word.ensures c.push_reserved.ensures.items;
-      right = words_pass-more c.args.bytes.now 17 i c.u64_at-word.result so_far.right c.u64_at-word.ensures here;
-      room = omega (arith, so_far.room, c.push_reserved.ensures.capacity);
-    }
+loop-i-preserved c = search (rules, words_from-more, words_pass-more)
 
 pub push_reserved-requires : goal.push_reserved-requires
-push_reserved-requires c =
-    let i = c.loop-i.i in
-    let so_many : length c.loop-i.words.items ≡ i = ap length c.loop-i.invariant.put ∙ length-words_from c.args.bytes.now 17 i in
-    let room = c.loop-i.invariant.room in
-    search rules
+push_reserved-requires c = search (rules, length-words_from)

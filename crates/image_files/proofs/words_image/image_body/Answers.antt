@@ -1,3 +1,4 @@
+use Rattle.std.proofs.Common.{rules}
 use Rattle.std.proofs.Common.{◌≡◌, ◌++◌, ◌+◌, ℕ, List, length, take, ap, arith, length-append}
 use Rattle.std.specs.List.{flat_map}
 use Rattle.std.proofs.lemmas.List.{length-take}
@@ -11,14 +12,7 @@ length_put : (before after : List ℕ) (n : ℕ) → after ≡ before ++ number_
 length_put before after n put = omega (arith, ap length put, length-append before (number_bytes 8 n), length-number_bytes 8 n)
 
 pub put_u64-requires-2 : goal.put_u64-requires-2
-put_u64-requires-2 c =
-    omega (
-      arith,
-      length_put c.in_ok-body.body.items c.put_u64.new.bytes.items c.marked.result c.put_u64.ensures.put,
-      c.put_u64.ensures.capacity,
-      c.in_ok-body.ensures.capacity,
-      ap length c.in_ok-body.ensures.items,
-    )
+put_u64-requires-2 c = search (rules, length_put)
 
 pub put_u64-requires-in-loop-word : goal.put_u64-requires-in-loop-word
 put_u64-requires-in-loop-word c =
