@@ -5,6 +5,7 @@ use Rattle.file_format.specs.declared.slot.Slot.{Slot}
 use Rattle.file_format.specs.declared.slot.Slot.TheVariants.{A}
 use Rattle.disk_model.specs.Disk.{Grew}
 use Rattle.disk_model.specs.declared.disk.Disk.{Ghosts}
+use Rattle.disk_model.specs.FourFiles.{EachFile, StaysFilled}
 use Rattle.image_files.specs.declared.phase.Phase.TheVariants.{Idle, Down}
 use Rattle.image_files.specs.Progress.{Progress as ImageProgress}
 use Rattle.action_log.specs.declared.phase.Phase.TheVariants.{Ready}
@@ -55,6 +56,7 @@ module _ {D : Type 0} (disk : Ghosts D) where
         (new.images.phase ≡ Down) (disk.faults old.files.image_a) (disk.faults new.files.image_a)
         (disk.faults old.files.image_b) (disk.faults new.files.image_b)
     pub follows : IsTrue disk.honest → StillFollows disk old new
+    pub filled : IsTrue disk.honest → EachFile old.files new.files (StaysFilled disk)
 
   -- the log keeper made steps; that of a start waits for its image
   pub record RunsLog (old new : World D) : Type 0 where
@@ -70,3 +72,4 @@ module _ {D : Type 0} (disk : Ghosts D) where
         (disk.faults old.files.log_b) (disk.faults new.files.log_b)
     pub follows : IsTrue disk.honest → (old.log.starting ≡ false) ⊎ (old.images.phase ≡ Idle)
         → StillFollows disk old new
+    pub filled : IsTrue disk.honest → EachFile old.files new.files (StaysFilled disk)

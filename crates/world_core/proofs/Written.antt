@@ -9,18 +9,17 @@ use Rattle.world_actions.specs.declared.action.Action.{Action}
 use Rattle.file_format.specs.declared.slot.Slot.{Slot}
 use Rattle.file_format.specs.declared.slot.Slot.TheVariants.{A, B}
 use Rattle.file_format.specs.Slot.{of_slot, in_slot, beside_slot, other_slot}
-use Rattle.disk_model.specs.Disk.{Call, Length, Read, Write, Sync, CalledOnce}
+use Rattle.disk_model.specs.Disk.{OneCalledAtMostOnce}
 use Rattle.disk_model.specs.FileState.{FileState, Calls}
-use Rattle.disk_model.specs.Fused.{Fails, CallsThrough}
-use Rattle.disk_model.specs.CrashOutcome.{IsCrashOutcome}
-use Rattle.image_files.specs.declared.phase.Phase.{Phase as ImagePhase}
-use Rattle.image_files.specs.declared.phase.Phase.TheVariants as image_phase
+use Rattle.disk_model.specs.Fused.{CallsThrough, keeps_through}
+use Rattle.disk_model.specs.CrashOutcome.{IsCrashOutcome, durable_stays, no_fewer}
+use Rattle.disk_model.proofs.FilledLemmas.{one_call_keeps}
+use Rattle.engine.proofs.Runs.{image_step_calls, log_step_calls}
 use Rattle.image_files.specs.declared.answer.ImageAnswer.{ImageAnswer}
 use Rattle.image_files.specs.declared.answer.ImageAnswer.TheVariants as image_given
 use Rattle.image_files.specs.Image.{Image, Closed, Open, image_of}
 use Rattle.image_files.specs.Images.{Round, FirstImages, ImageFiles, NoneYet, Newest, newest_in, round_in, with_opened, StepsImages}
 use Rattle.image_files.specs.Progress.{Progress as ImageProgress, newest_tick, target_of, made_keeper}
-use Rattle.image_files.specs.Steps.{CallsIn as ImageCallsIn}
 use Rattle.capture_core.specs.Content.{Content, Takes}
 use Rattle.action_log.specs.declared.phase.Phase.{Phase}
 use Rattle.action_log.specs.declared.phase.Phase.TheVariants.{Retiring, RetiringSync, Ready, BodySync, Gate, GateSync, Closing, ClosingSync, Header, HeaderSync, Opening, OpeningSync}
@@ -30,7 +29,6 @@ use Rattle.action_log.specs.declared.answer.LogAnswer.{LogAnswer}
 use Rattle.action_log.specs.declared.answer.LogAnswer.TheVariants as log_given
 use Rattle.action_log.specs.declared.progress.Progress.{Progress as LogProgress}
 use Rattle.action_log.specs.Progress.{rest_in, is_of_start}
-use Rattle.action_log.specs.Calls.{CallsIn as LogCallsIn}
 use Rattle.action_log.specs.Written.{Written}
 use Rattle.action_log.specs.Files.{CurrentFits, CurrentOutcomes}
 use Rattle.action_log.specs.Segment.{Segment, IsSegment}
@@ -40,7 +38,7 @@ use Rattle.recovery.specs.Recovery.{Recovery}
 use Rattle.recovery.specs.Restart.{IsBuilt}
 use Rattle.recovery.specs.Start.{IsFirstRound}
 use Rattle.restart.specs.Start.{has_round, is_shut}
-use Rattle.engine.specs.Fuses.{armed}
+use Rattle.engine.specs.Fuses.{images_armed, log_armed}
 use Rattle.engine.specs.Steps.{EndsTick}
 use Rattle.engine.specs.World.{HasImages}
 use Rattle.engine.proofs.Beginning.{started_newest}
@@ -66,98 +64,32 @@ use Rattle.world_core.proofs.Recovering.{restarts}
 
 -- ---- a file
 
--- a crash may leave the durable bytes
-durable_stays : (file : FileState) → IsCrashOutcome file file.durable
-durable_stays file = record { are_bytes = file.in_order.durable_bytes; no_shorter = omega arith; no_longer = file.in_order.no_shorter; kept = λ place inside synced. refl }
-
 outcome_written : (count : ℕ) (file : FileState) (left : List ℕ) → IsWritten count file → IsCrashOutcome file left → count ≤ length left
 outcome_written count file left w o = omega (arith, w, o.no_shorter)
 
 only_written : (count : ℕ) (bytes : List ℕ) (file : File) → HasOnly bytes file → count ≤ length bytes → IsWritten count file.inner
 only_written count bytes file h some = subst (λ b. count ≤ length b) (sym (h.only file.inner.durable (durable_stays file.inner))) some
 
--- a call shortens no file
-calls_keep : (old : FileState) (call : Call) (succeeded : Bool) (new : FileState) → Calls old call succeeded new → (count : ℕ) → IsWritten count old → IsWritten count new
-calls_keep old call false new is count w = subst (IsWritten count) (sym is) w
-calls_keep old (Write at bytes) true new is count w = subst (λ b. count ≤ length b) (sym is.durable) w
-calls_keep old Sync true new is count w = subst (λ b. count ≤ length b) (sym is.synced.durable) (let some : count ≤ length old.content = omega (arith, w, old.in_order.no_shorter) in some)
-calls_keep old Length true new is count w = subst (IsWritten count) (sym is) w
-calls_keep old (Read at many) true new is count w = subst (IsWritten count) (sym is) w
-
 -- bytes that are written stay so
 abbrev pub Keeps : (old new : File) → Type 0
 Keeps old new = (count : ℕ) → IsWritten count old.inner → IsWritten count new.inner
 
-same_keeps : (old new : File) → new ≡ old → Keeps old new
-same_keeps old new is count w = subst (λ (f : File). IsWritten count f.inner) (sym is) w
-
-fails_keep : (old : File) (call : Call) (new : File) → Fails Calls old call new → Keeps old new
-fails_keep old (Write at bytes) new f count w = calls_keep old.inner (Write at bytes) f.0 new.inner f.1 count w
-fails_keep old Length new f count w = subst (IsWritten count) (sym f.0) w
-fails_keep old (Read at many) new f count w = subst (IsWritten count) (sym f.0) w
-fails_keep old Sync new f count w = subst (IsWritten count) (sym f.0) w
-
-due_or_not : (left : Option ℕ) → (left ≡ Some 0) ⊎ (left ≡ Some 0 → ⊥)
-due_or_not (Some zero) = inl refl
-due_or_not (Some (suc more)) = inr (λ e. let g = e in cc)
-due_or_not None = inr (λ e. let g = e in cc)
-
-once_keeps : (old new : File) → CalledOnce (CallsThrough Calls) old new → Keeps old new
-once_keeps old new c count w = elim (due_or_not old.left) [
-  | inl due ↦ fails_keep old c.0 new (c.2.due due).1 count w
-  | inr none ↦ calls_keep old.inner c.0 c.1 new.inner (c.2.passed none).0 count w
-]
-
--- two files of a kind
-by_slot : (slot : Slot) (a new_a b new_b : File) → Keeps (of_slot slot a b) (of_slot slot new_a new_b) × Keeps (of_slot slot b a) (of_slot slot new_b new_a) → Keeps a new_a × Keeps b new_b
-by_slot A a new_a b new_b k = k
-by_slot B a new_a b new_b k = (k.1, k.0)
+-- no call shortens a file
+calls_keep : (a new_a b new_b : File) → OneCalledAtMostOnce (CallsThrough Calls) a new_a b new_b → Keeps a new_a × Keeps b new_b
+calls_keep a new_a b new_b is = (λ count. (both count).0, λ count. (both count).1)
+  where
+    both : (count : ℕ) → (IsWritten count a.inner → IsWritten count new_a.inner) × (IsWritten count b.inner → IsWritten count new_b.inner)
+    both count = one_call_keeps (CallsThrough Calls) (λ (f : File). IsWritten count f.inner)
+        (keeps_through Calls (IsWritten count) (λ old new call succeeded is w. omega (arith, w, no_fewer old new call succeeded is))) a new_a b new_b is
 
 -- ---- a step of a keeper
 
-image_calls_keep : (phase : ImagePhase) (target new_target newest new_newest : File)
-    → ImageCallsIn phase (CallsThrough Calls) target new_target newest new_newest → Keeps target new_target × Keeps newest new_newest
-image_calls_keep image_phase.Idle target new_target newest new_newest c = (same_keeps target new_target c.0, same_keeps newest new_newest c.1)
-image_calls_keep image_phase.Taking target new_target newest new_newest c = (same_keeps target new_target c.0, same_keeps newest new_newest c.1)
-image_calls_keep image_phase.Down target new_target newest new_newest c = (same_keeps target new_target c.0, same_keeps newest new_newest c.1)
-image_calls_keep image_phase.Reading target new_target newest new_newest c = (same_keeps target new_target c.0, once_keeps newest new_newest c.1)
-image_calls_keep phase target new_target newest new_newest c = (once_keeps target new_target c.0, same_keeps newest new_newest c.1)
-
 image_step_keeps : (fate : Fate) (old : State) (given : ImageAnswer) (new : State)
     → StepsImagesBy fate old given new → Keeps old.files.image_a new.files.image_a × Keeps old.files.image_b new.files.image_b
-image_step_keeps fate old given new s =
-    let slot = target_of old.images.newest in
-    let a = armed (is_failed fate) old.files.image_a in
-    let b = armed (is_failed fate) old.files.image_b in
-    by_slot slot a new.files.image_a b new.files.image_b
-    (image_calls_keep old.images.phase (of_slot slot a b) (of_slot slot new.files.image_a new.files.image_b) (of_slot slot b a) (of_slot slot new.files.image_b new.files.image_a) s.calls)
-
-log_calls_keep : (phase : Phase) (queue : List Record) (current new_current other new_other : File)
-    → LogCallsIn (CallsThrough Calls) current new_current other new_other phase queue → Keeps current new_current × Keeps other new_other
-log_calls_keep Ready [] current new_current other new_other c = (same_keeps current new_current c.0, same_keeps other new_other c.1)
-log_calls_keep Ready (records.Tick tick ∷ queue) current new_current other new_other c = (once_keeps current new_current c.0, same_keeps other new_other c.1)
-log_calls_keep Ready (records.Switch tick ∷ queue) current new_current other new_other c = (same_keeps current new_current c.0, once_keeps other new_other c.1)
-log_calls_keep Retiring queue current new_current other new_other c = (once_keeps current new_current c.0, same_keeps other new_other c.1)
-log_calls_keep RetiringSync queue current new_current other new_other c = (once_keeps current new_current c.0, same_keeps other new_other c.1)
-log_calls_keep BodySync queue current new_current other new_other c = (once_keeps current new_current c.0, same_keeps other new_other c.1)
-log_calls_keep Gate queue current new_current other new_other c = (once_keeps current new_current c.0, same_keeps other new_other c.1)
-log_calls_keep GateSync queue current new_current other new_other c = (once_keeps current new_current c.0, same_keeps other new_other c.1)
-log_calls_keep phase queue current new_current other new_other c = (same_keeps current new_current c.0, once_keeps other new_other c.1)
-
-log_step_keeps_by : (down : Bool) (fate : Fate) (old : State) (given : LogAnswer) (new : State) → old.log.down ≡ down
-    → StepsLogBy fate old given new → Keeps old.files.log_a new.files.log_a × Keeps old.files.log_b new.files.log_b
-log_step_keeps_by false fate old given new up s =
-    let slot = old.log.current in
-    let a = armed (is_failed fate) old.files.log_a in
-    let b = armed (is_failed fate) old.files.log_b in
-    by_slot slot a new.files.log_a b new.files.log_b
-    (log_calls_keep old.log.phase old.queue (of_slot slot a b) (of_slot slot new.files.log_a new.files.log_b) (of_slot slot b a) (of_slot slot new.files.log_b new.files.log_a) (s.calls up))
-log_step_keeps_by true fate old given new down s =
-    let r = s.rests (inr down) in
-    (same_keeps (armed (is_failed fate) old.files.log_a) new.files.log_a r.2, same_keeps (armed (is_failed fate) old.files.log_b) new.files.log_b r.3)
+image_step_keeps fate old given new s = calls_keep _ _ _ _ (image_step_calls core_disk (images_armed (is_failed fate) old) given new s)
 
 log_step_keeps : (fate : Fate) (old : State) (given : LogAnswer) (new : State) → StepsLogBy fate old given new → Keeps old.files.log_a new.files.log_a × Keeps old.files.log_b new.files.log_b
-log_step_keeps fate old given new s = log_step_keeps_by old.log.down fate old given new refl s
+log_step_keeps fate old given new s = calls_keep _ _ _ _ (log_step_calls core_disk (log_armed (is_failed fate) old) given new s)
 
 -- ---- files with an open image or segment
 

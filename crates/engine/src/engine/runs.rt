@@ -1,7 +1,7 @@
 ghost use Rattle.std.specs.Prelude.{◌≡◌, ◌⊎◌, ℕ, List, [], true, false, IsTrue, IfErr, OnOk, OnErr};
 ghost use Rattle.world_actions.specs.declared.action.Action.{Action};
 ghost use Rattle.file_format.specs.declared.slot.Slot.TheVariants.{A};
-ghost use Rattle.disk_model.specs.FourFiles.{fault_counts};
+ghost use Rattle.disk_model.specs.FourFiles.{EachFile, StaysFilled, fault_counts};
 ghost use Rattle.image_files.specs.declared.phase.Phase.TheVariants.{Idle, Down};
 ghost use Rattle.action_log.specs.Progress.{work_of};
 ghost use Rattle.engine.specs.World.{IsAtRest};
@@ -61,6 +61,8 @@ impl<C: Capture, D: Disk> Engine<C, D> {
             → (first : List ℕ) (ticks : List (List Action)) (acknowledged : ℕ)
             → Follows D.Disk self.old first ticks acknowledged
             → OnOk result (Follows D.Disk self.new first ticks self.new.ended) }
+        ensures filled { IsTrue D.honest
+            → EachFile self.old.files self.new.files (StaysFilled D.Disk) }
         ensures refused { IfErr result (λ refusal. refusal ≡ Refusal.Device) }
         ensures device { (self.old.images.phase ≡ Down → ⊥) → self.old.log.down ≡ false
             → OnErr result (SomeGrew (fault_counts D.faults self.old.files)

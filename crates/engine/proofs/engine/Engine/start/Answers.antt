@@ -3,6 +3,7 @@ use Rattle.std.proofs.Common.{◌≡◌, ◌⊎◌, inl, inr, true, false, sym, 
 use Rattle.image_files.specs.declared.phase.Phase.{Phase}
 use Rattle.image_files.specs.declared.phase.Phase.TheVariants.{Idle, Down}
 use Rattle.engine.specs.World.{World}
+use Rattle.disk_model.proofs.FilledLemmas.{each_filled}
 use Rattle.engine.proofs.Faults.{images_grew, logs_grew, run_failed, start_is_down}
 use Rattle.engine.proofs.Rest.{no_work, all_follow}
 use Rattle.engine.proofs.engine.Engine.start.Goals as goal
@@ -42,3 +43,9 @@ returns-clause-acknowledges g c = λ honest first ticks acknowledged f.
     all_follow g.D.Disk c.event_laws.ensures c.keeper_laws.ensures last first ticks acknowledged
     (sym c.if-is_starting.ensures.starting) (no_work last.log last.queue c.write_log.ensures.rests (sym c.if-log_is_down.ensures))
     (c.write_log.ensures.runs.follows honest (inr idle) first ticks acknowledged (c.write_image.ensures.runs.follows honest first ticks acknowledged f))
+
+pub returns-then-log_is_down-clause-filled : goal.returns-then-log_is_down-clause-filled
+returns-then-log_is_down-clause-filled g c = λ honest. each_filled g.D.Disk _ _ _ (c.write_image.ensures.runs.filled honest) (c.write_log.ensures.runs.filled honest)
+
+pub returns-clause-filled : goal.returns-clause-filled
+returns-clause-filled g c = λ honest. each_filled g.D.Disk _ _ _ (c.write_image.ensures.runs.filled honest) (c.write_log.ensures.runs.filled honest)
