@@ -46,7 +46,7 @@ marked w (Stop ∷ items) v leads = marked leads.0 items v leads.2
 pub marked_rounds : (w : World) (items : List Item) (v : World) (leads : Leads w items v) → v.rounds ≡ w.rounds ++ marked w items v leads
 marked_rounds w [] v leads = ap (λ (u : World). u.rounds) leads ∙ sym (append-nil w.rounds)
 marked_rounds w (Start number ∷ items) v leads = marked_rounds leads.0 items v leads.2 ∙ ap (λ (u : World). u.rounds ++ marked leads.0 items v leads.2) leads.1
-marked_rounds w (Tick ended ∷ items) v leads = marked_rounds leads.0 items v leads.2 ∙ ap (λ r. r ++ marked leads.0 items v leads.2) leads.1.1.rounds
+marked_rounds w (Tick ended ∷ items) v leads = marked_rounds leads.0 items v leads.2 ∙ ap (λ r. r ++ marked leads.0 items v leads.2) leads.1.rounds
 marked_rounds w (Switch number ∷ items) v leads =
     let rest = marked leads.0 items v leads.2 in
     marked_rounds leads.0 items v leads.2 ∙ ap (λ r. r ++ rest) leads.1.1.1 ∙ append_assoc w.rounds (round number w.words leads.1.1.0 ∷ []) rest
@@ -85,11 +85,11 @@ module _ (laws : Laws) (origin : List ℕ) (logs : Logs) where
       ∙ done
 
   -- a batch was run
-  ran : (ticks : List (List Action)) (queue : List Record) (images : Images) (w v : World) (ended : Ended) → Keeps ticks w.words images queue → (requests : List Request) × RanBatch requests w ended v
+  ran : (ticks : List (List Action)) (queue : List Record) (images : Images) (w v : World) (ended : Ended) → Keeps ticks w.words images queue → RanBatch ended.answer.asked.requests w ended v
       → Keeps (ticks ++ ended.tick.list ∷ []) v.words images (queue ++ records.Tick ended.tick ∷ [])
   ran ticks queue images w v ended k is =
       let done : after_actions w.words ended.tick.list ≡ Ok v.words =
-      ap (after_actions w.words) is.1.tick ∙ laws.accepted is.0 w.words ∙ ap (λ (l : List ℕ). Ok l) (sym is.1.words) in
+      ap (after_actions w.words) is.tick ∙ laws.accepted ended.answer.asked.requests w.words ∙ ap (λ (l : List ℕ). Ok l) (sym is.words) in
       let same : Ok k.1.last ≡ Ok w.words = sym k.1.accepted ∙ k.2 in
       let last : k.1.last ≡ w.words = cc in (
         k.0,

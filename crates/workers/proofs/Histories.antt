@@ -21,7 +21,7 @@ use Rattle.workers.specs.Posts.{AskedBatch}
 use Rattle.workers.specs.AskOrder.{AreNumbered, PlaysInTurn}
 use Rattle.workers.specs.AskChannel.{Taking}
 use Rattle.workers.specs.Channel.{Pushing}
-use Rattle.workers.specs.Worlds.{World, after_item, Leads, begun, world_of, IsUnchanged, AreUnchanged, IsLate, History, Counts}
+use Rattle.workers.specs.Worlds.{World, RanBatch, after_item, Leads, begun, world_of, IsUnchanged, AreUnchanged, IsLate, History, Counts}
 use Rattle.workers.specs.Mutating.{Playing, item_of, Owes, IsTaken, IsMutator}
 use Rattle.workers.proofs.Numbers.{end_more}
 use Rattle.workers.proofs.PlayedAsks.{plays_tick, plays_switch, plays_stop, plays_none}
@@ -76,12 +76,12 @@ up_to_more base most rounds r le known this =
 
 module _ (m : Playing) (front : FrontState) (heard : SignalState) (is : IsMutator m) (up : m.stopped ≡ false) where
   -- a batch was run, whose tick is owed
-  pub owes_tick : (ended : Ended) (asked : AskedBatch) (requests : List Request) → ended.answer.asked ≡ asked → IsTaken m asked
+  pub owes_tick : (ended : Ended) (asked : AskedBatch) (requests : List Request) → requests ≡ ended.answer.asked.requests → ended.answer.asked ≡ asked → IsTaken m asked
       → SameRounds m.front front → ended.tick.list ≡ accepted_of requests m.front.live
       → ended.answer.text ≡ answer requests m.front.live ended.answer.number → ended.answer.number ≡ m.ended + 1 → front.live ≡ words_after requests m.front.live
       → (m.ended < TICK_MAX) × (m.since < SEGMENT_TICKS) → (HasFlags m.front → KeepsUntouched m.front front)
       → IsMutator (record m { front = front; heard = heard; stopped = true; owed = Some (owed.Tick ended) })
-  owes_tick ended asked requests own taken same tick text number words room keeps =
+  owes_tick ended asked requests its own taken same tick text number words room keeps =
       let h = is.history in
       let counts = is.counts in
       let now = leads_now m.opening m.to.items m.stopped m.front h up in record {
@@ -102,7 +102,8 @@ module _ (m : Playing) (front : FrontState) (heard : SignalState) (is : IsMutato
         owes = record {
           stopped = refl;
           goes = (omega (arith, counts.count, room.1), omega (arith, counts.all, counts.count, room.0), omega (arith, counts.all, counts.count, number));
-          leads = leads_snoc (begun m.opening) m.to.items (world_of m.front) (Tick ended) (world_of front) now (requests, record { tick = tick; text = text; words = words; rounds = same.1 });
+          leads = leads_snoc (begun m.opening) m.to.items (world_of m.front) (Tick ended) (world_of front) now
+              (subst (λ (l : List Request). RanBatch l (world_of m.front) ended (world_of front)) its (record { tick = tick; text = text; words = words; rounds = same.1 }));
           in_turn = plays_tick m.asks.taken m.to.items ended asked own taken.0 taken.1 is.in_turn;
           rising = subst (UpTo (items_end m.to.items).base) (sym same.1) (is.rising up);
         };

@@ -22,6 +22,7 @@ use Rattle.workers.specs.declared.checkpointer.round.ImageWriter.{ImageWriter}
 use Rattle.workers.specs.Imaging.{round_of, with_work, images_after, newest_after, HasRound, AreInStep, RoundRuns}
 use Rattle.workers.specs.Imaging.{ImagesStand, FollowsRounds, WriterFits, ReportsFaults, Imaging, IsCheckpointer}
 use Rattle.disk_model.specs.declared.disk.Disk.{Ghosts}
+use Rattle.disk_model.specs.FourFiles.{StaysFilled}
 use Rattle.workers.specs.Publishing.{ArePublished}
 
 -- ---- the words of a round
@@ -307,8 +308,9 @@ module _ {D : Type 0} (disk : Ghosts D) where
       → next.opening.keeper.cells ≡ found.cells → (IsTrue disk.honest → WriterFits disk next.images) → FollowsRounds disk next.opening next.images next.back
       → RoundRuns found next.images.keeper next.back → ArePublished next.images.keeper.newest next.back.done next.covers
       → (newest : Option (Slot × ℕ)) → newest ≡ newest_after next.opening.keeper.newest found.done → newest_tick newest < found.now.tick
+      → (IsTrue disk.honest → StaysFilled disk next.opening.image_a next.images.image_a × StaysFilled disk next.opening.image_b next.images.image_b)
       → IsCheckpointer disk next
-  checkpointer_goes_on next found step cells fits follows runs published newest was newer = record {
+  checkpointer_goes_on next found step cells fits follows runs published newest was newer filled = record {
     step = step;
     cells = cells ∙ sym runs.same.1;
     fits = fits;
@@ -319,6 +321,7 @@ module _ {D : Type 0} (disk : Ghosts D) where
         let w = runs.in_work busy in
         let kept : next.images.keeper.newest ≡ newest = follows.newest ∙ (ap (newest_after next.opening.keeper.newest) w.2 ∙ sym was) in
         omega (arith, newer, ap newest_tick kept, w.1);
+    filled = filled;
   }
 
 -- ---- a step
@@ -381,4 +384,5 @@ module _ {D : Type 0} (disk : Ghosts D) where
             (subst (λ (n : Option (Slot × ℕ)). ArePublished n old.back.done old.covers) (sym newest) is.published);
         fresh = λ _ _. fresh.none;
         newer = λ _. omega (arith, newer, ap newest_tick newest, fresh.tick);
+        filled = λ sure. (subst (StaysFilled disk old.opening.image_a) (sym same_a) (is.filled sure).0, subst (StaysFilled disk old.opening.image_b) (sym same_b) (is.filled sure).1);
       }

@@ -10,7 +10,6 @@ mod Turning
 pub mod Waits
 mod Coverings
 mod Failing
-mod Calling
 pub mod Reporting
 pub mod Loggings
 pub mod Imagings

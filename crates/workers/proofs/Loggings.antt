@@ -25,6 +25,9 @@ use Rattle.workers.specs.Items.{Goes, end_after, items_end, record_of, records_o
 use Rattle.workers.specs.Channel.{Popping}
 use Rattle.workers.specs.Answering.{Answering, AreNext, answers_of, all_answers_of}
 use Rattle.workers.specs.Covering.{LeavesOut}
+use Rattle.disk_model.specs.Disk.{OneCalledAtMostOnce}
+use Rattle.disk_model.specs.FourFiles.{CallsFill}
+use Rattle.disk_model.proofs.FilledLemmas.{one_more_fills}
 use Rattle.workers.specs.Logging.{Logging, IsLogging, Writes, content_in, is_stop, has_stop, is_over, Took, HasAcked, LogStands, IsReady, writer_at}
 use Rattle.workers.proofs.Numbers.{end_more}
 use Rattle.disk_model.specs.declared.disk.Disk.{Ghosts}
@@ -84,6 +87,7 @@ module _ {D : Type 0} (disk : Ghosts D) (w : Logging D) (is : IsLogging disk w) 
         (subst (λ (r : List Record). Writes disk w.log ring.items w.covers.numbers w.acked w.down (content_in logs) r) (sym (ap records_of popped ∙ records_more w.from.items item))
         (subst (λ (b : Buffer Record). Writes disk w.log b.items w.covers.numbers w.acked w.down (content_in logs) (records_of w.from.items ++ record_of item)) (sym ring_is)
         (writes_more disk w.log w.ring.items (record_of item) w.covers.numbers w.acked w.down (content_in logs) (records_of w.from.items) up (is.writes h logs stands))));
+    filled = is.filled;
   }
 
   -- the content of the files after a step with this answer
@@ -102,8 +106,9 @@ module _ {D : Type 0} (disk : Ghosts D) (w : Logging D) (is : IsLogging disk w) 
       → (w.answers.posted ≡ w.answers.answered → answers.posted ≡ answers.answered) → answers.posted ≤ acked
       → (acked ≡ w.acked) ⊎ (given ≡ answer.Acked acked)
       → covers ≡ with_number w.covers tick → (IsTrue disk.honest → LogAdvances disk tick w.log log w.ring.items ring.items given)
+      → CallsFill disk → OneCalledAtMostOnce disk.called w.log.a log.a w.log.b log.b
       → IsLogging disk (record w { covers = covers; log = log; ring = ring; answers = answers; acked = acked })
-  advanced covers tick log ring answers given acked started fits follows end capacity room count posted durable which reported advances = record {
+  advanced covers tick log ring answers given acked started fits follows end capacity room count posted durable which reported advances fills calls = record {
     started = started;
     fits = fits;
     follows = follows;
@@ -116,6 +121,7 @@ module _ {D : Type 0} (disk : Ghosts D) (w : Logging D) (is : IsLogging disk w) 
     durable = durable;
     reports = is.reports;
     writes = reported_on covers tick log ring given acked which reported advances;
+    filled = λ sure. one_more_fills disk fills sure w.opening.a w.log.a log.a w.opening.b w.log.b log.b (is.filled sure) calls;
   }
 
   -- an item is popped and its answer refused, if no other answer waits
@@ -152,6 +158,7 @@ module _ {D : Type 0} (disk : Ghosts D) (w : Logging D) (is : IsLogging disk w) 
           writes = λ h logs stands.
               (subst (λ (r : List Record). Writes disk w.log w.ring.items w.covers.numbers w.acked w.down (content_in logs) r) (sym (ap records_of popped ∙ records_more w.from.items item))
               (writes_lost disk w.log w.ring.items (record_of item) w.covers.numbers w.acked w.down (content_in logs) (records_of w.from.items) down (is.writes h logs stands)));
+          filled = is.filled;
         }
 
 -- ---- the items that a turn pops
@@ -245,6 +252,7 @@ module _ {D : Type 0} (disk : Ghosts D) where
           none_lost = λ up. refl;
           acknowledged = inl (has_first log tick logs ready stands);
         };
+        filled = λ sure. (λ was. was, λ was. was);
       }
 
   pub begins_of : (from : Popping) (covers reported_down : SignalState) (log opening : Log D) (ring : Buffer Record)

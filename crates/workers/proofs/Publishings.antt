@@ -10,6 +10,9 @@ use Rattle.shared_capture.specs.declared.view.Snapshot.{Snapshot}
 use Rattle.shared_capture.specs.SignalWord.{SignalState, with_number}
 use Rattle.shared_capture.specs.States.{BackState}
 use Rattle.workers.specs.declared.checkpointer.round.ImageWriter.{ImageWriter}
+use Rattle.disk_model.specs.Disk.{OneCalledAtMostOnce}
+use Rattle.disk_model.specs.FourFiles.{StaysFilled, CallsFill}
+use Rattle.disk_model.proofs.FilledLemmas.{one_more_fills}
 use Rattle.workers.specs.Imaging.{newest_after, HasRound, RoundRuns, Publishes, AreInStep, FollowsRounds, WriterFits, Imaging, IsCheckpointer}
 use Rattle.workers.specs.Publishing.{ArePublished}
 use Rattle.disk_model.specs.declared.disk.Disk.{Ghosts}
@@ -56,11 +59,12 @@ published_on true tick newest opened keeper old found new covers covers' p newer
 -- ---- a step of the round in work
 
 module _ {D : Type 0} (disk : Ghosts D) where
-  pub checkpointer_steps : (old : Imaging D) (number : ℕ) (found : BackState) (next : Imaging D) → IsCheckpointer disk old → HasRound old.images.keeper
+  pub checkpointer_steps : CallsFill disk → (old : Imaging D) (number : ℕ) (found : BackState) (next : Imaging D) → IsCheckpointer disk old → HasRound old.images.keeper
       → found ≡ old.back → old.back.now.tick ≡ number → next.opening ≡ old.opening
       → AreInStep next.images.keeper next.back → (IsTrue disk.honest → WriterFits disk next.images) → FollowsRounds disk old.opening next.images next.back
-      → RoundRuns found next.images.keeper next.back → Publishes number next.images.keeper old.covers next.covers → IsCheckpointer disk next
-  checkpointer_steps old number found next is busy same tick opening step fits follows runs publishes =
+      → RoundRuns found next.images.keeper next.back → Publishes number next.images.keeper old.covers next.covers
+      → OneCalledAtMostOnce disk.called old.images.image_a next.images.image_a old.images.image_b next.images.image_b → IsCheckpointer disk next
+  checkpointer_steps fills old number found next is busy same tick opening step fits follows runs publishes calls =
       let keeper = next.images.keeper in
       let done : found.done ≡ old.back.done = ap (λ (b : BackState). b.done) same in
       let at : found.now.tick ≡ number = ap (λ (b : BackState). b.now.tick) same ∙ tick in
@@ -75,3 +79,5 @@ module _ {D : Type 0} (disk : Ghosts D) where
       checkpointer_goes_on disk next found step (ap (λ (o : ImageWriter D). o.keeper.cells) opening ∙ (is.cells ∙ sym (ap (λ (b : BackState). b.cells) same))) fits on runs published
       old.images.keeper.newest
       (is.follows.newest ∙ (ap (λ (o : ImageWriter D). newest_after o.keeper.newest old.back.done) (sym opening) ∙ ap (newest_after next.opening.keeper.newest) (sym done))) (omega (arith, newer, at))
+      (λ sure. subst (λ (o : ImageWriter D). StaysFilled disk o.image_a next.images.image_a × StaysFilled disk o.image_b next.images.image_b) (sym opening)
+      (one_more_fills disk fills sure _ old.images.image_a next.images.image_a _ old.images.image_b next.images.image_b (is.filled sure) calls))

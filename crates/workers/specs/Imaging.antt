@@ -3,6 +3,7 @@ use Rattle.std.specs.Prelude.{◌≡◌, ◌≢◌, ◌⊎◌, ℕ, ◌<◌, Boo
 use Rattle.std.specs.Prelude.{◌++◌, length, Option, Some}
 use Rattle.disk_model.specs.declared.disk.Disk.{Ghosts}
 use Rattle.disk_model.specs.Disk.{FaultsBy}
+use Rattle.disk_model.specs.FourFiles.{StaysFilled}
 use Rattle.file_format.specs.declared.slot.Slot.{Slot}
 use Rattle.image_files.specs.declared.phase.Phase.{Phase}
 use Rattle.image_files.specs.declared.phase.Phase.TheVariants.{Idle, Taking, Down}
@@ -139,7 +140,8 @@ IsAtRest keeper back = (keeper.phase ≡ Idle) × (back.working ≡ false)
 
 -- Keeper, files and back are in step, with as many cells as at the opening. The images of the
 -- rounds that are done are published. No cell is taken of a round that the keeper hasn't begun. A
--- round that it has begun is newer than its newest image.
+-- round that it has begun is newer than its newest image. No crash empties a file that had a byte
+-- at the opening.
 pub record IsCheckpointer {D : Type 0} (disk : Ghosts D) (c : Imaging D) : Type 0 where
   pub step : AreInStep c.images.keeper c.back
   pub cells : c.opening.keeper.cells ≡ c.back.cells
@@ -148,6 +150,8 @@ pub record IsCheckpointer {D : Type 0} (disk : Ghosts D) (c : Imaging D) : Type 
   pub published : ArePublished c.images.keeper.newest c.back.done c.covers
   pub fresh : c.images.keeper.phase ≡ Idle → c.back.working ≡ true → c.back.now.taken ≡ []
   pub newer : HasRound c.images.keeper → newest_tick c.images.keeper.newest < c.back.now.tick
+  pub filled : IsTrue disk.honest → StaysFilled disk c.opening.image_a c.images.image_a
+      × StaysFilled disk c.opening.image_b c.images.image_b
 
 -- The open round of this tick was found. Either it is done, or it stays open and the checkpointer
 -- does no more. In that case no image is made of this tick. Or its image was begun, and a call of a

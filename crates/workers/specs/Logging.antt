@@ -5,6 +5,7 @@ use Rattle.std.specs.List.{list_any}
 use Rattle.world_ticks.specs.declared.tick.TheConstants.{TICK_MAX}
 use Rattle.disk_model.specs.declared.disk.Disk.{Ghosts}
 use Rattle.disk_model.specs.Disk.{FaultsBy}
+use Rattle.disk_model.specs.FourFiles.{StaysFilled}
 use Rattle.circular_buffer.specs.Buffer.{Buffer}
 use Rattle.action_log.specs.declared.record.Record.{Record}
 use Rattle.action_log.specs.declared.record.Record.TheVariants as records
@@ -186,6 +187,8 @@ module _ {D : Type 0} (disk : Ghosts D) where
     pub writes : IsTrue disk.honest → (logs : Logs) → LogStands w.opening logs
         → Writes w.log w.ring.items w.covers.numbers w.acked w.down (content_in logs)
         (records_of w.from.items)
+    pub filled : IsTrue disk.honest → StaysFilled disk w.opening.a w.log.a
+        × StaysFilled disk w.opening.b w.log.b
 
 -- The log writer while it posts answers: the log as it began, the popped items, the word that it
 -- loads, and the log and the queue now.

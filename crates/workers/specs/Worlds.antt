@@ -38,7 +38,7 @@ IsRefusedTick down ended since reason =
 -- words at that time.
 abbrev pub after_item : World → Item → World → Type 0
 after_item w (Start number) v = v ≡ w
-after_item w (Tick ended) v = (requests : List Request) × RanBatch requests w ended v
+after_item w (Tick ended) v = RanBatch ended.answer.asked.requests w ended v
 after_item w (Switch number) v =
     (v.words ≡ w.words)
     × ((touched : List Bool) × (v.rounds ≡ w.rounds ++ round number w.words touched ∷ []))

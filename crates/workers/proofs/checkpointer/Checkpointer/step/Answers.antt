@@ -18,12 +18,12 @@ invariant_of-self-2 g c =
     let same : Some inside.back.now.tick ≡ Some c.in-Some.number = sym known.0 ∙ c.in-Some.is in
     let tick : inside.back.now.tick ≡ c.in-Some.number = cc in
     let e = c.step.ensures in
-    checkpointer_steps D
+    checkpointer_steps D g.met.D.Disk.keeps_byte
     (record { back = inside.back; covers = inside.covers; images = inside.images; opening = inside.opening.value; over = inside.over }) c.in-Some.number c.look.new.self
     (record { back = c.step.new.back; covers = c.step.new.covers; images = c.step.new.images; opening = inside.opening.value; over = c.is_down-self-inside.result })
     c.self.invariant busy known.1 tick refl e.step e.fits
     (e.follows inside.opening.value (subst (λ (b : BackState). FollowsRounds D inside.opening.value inside.images b) (sym known.1) c.self.invariant.follows))
-    e.runs e.publishes
+    e.runs e.publishes e.calls
 
 pub returns-clause-goes : goal.returns-clause-goes
 returns-clause-goes g c =

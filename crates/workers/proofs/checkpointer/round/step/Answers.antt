@@ -1,5 +1,5 @@
 use Rattle.image_files.specs.Progress.{target_of}
-use Rattle.workers.proofs.Calling.{image_calls_one, image_calls_none}
+use Rattle.restart.proofs.Calling.{image_calls_one, image_calls_none}
 use Rattle.workers.proofs.Publishings.{publishes_none}
 use Rattle.workers.proofs.Imagings.{faults_step, is_busy, stays_busy, step_on, runs_on, less_left, follows_on, follows_opened}
 use Rattle.workers.proofs.checkpointer.round.step.Goals as goal

@@ -25,6 +25,7 @@ invariant_of-self-in-Down g c =
     advanced g.D.Disk _ c.self.invariant c.latest-tick.new.self c.latest-tick.result
     c.advance.new.log c.advance.new.queue c.self.inside.answers c.advance.result c.self.inside.acked
     (e.started c.self.invariant.started) e.fits e.follows e.end e.ring refl refl (λ same. same) c.self.invariant.durable (inl refl) c.latest-tick.ensures.loaded e.advances
+    g.met.D.Disk.keeps_byte e.calls
 
 pub invariant_of-self-in-Acked : goal.invariant_of-self-in-Acked
 invariant_of-self-in-Acked g c =
@@ -43,6 +44,7 @@ invariant_of-self-in-Acked g c =
     advanced g.D.Disk _ c.self.invariant c.latest-tick.new.self c.latest-tick.result
     c.advance.new.log c.advance.new.queue c.post_all.new.self c.advance.result c.max-self-inside.result
     (e.started c.self.invariant.started) e.fits e.follows e.end e.ring posts.room count posts.posted (posts.most c.max-self-inside.result least greatest) which c.latest-tick.ensures.loaded e.advances
+    g.met.D.Disk.keeps_byte e.calls
 
 pub invariant_of-self-in-Idle : goal.invariant_of-self-in-Idle
 invariant_of-self-in-Idle g c =
@@ -50,6 +52,7 @@ invariant_of-self-in-Idle g c =
     advanced g.D.Disk _ c.self.invariant c.latest-tick.new.self c.latest-tick.result
     c.advance.new.log c.advance.new.queue c.self.inside.answers c.advance.result c.self.inside.acked
     (e.started c.self.invariant.started) e.fits e.follows e.end e.ring refl refl (λ same. same) c.self.invariant.durable (inl refl) c.latest-tick.ensures.loaded e.advances
+    g.met.D.Disk.keeps_byte e.calls
 
 pub returns-in-Down-clause-loads : goal.returns-in-Down-clause-loads
 returns-in-Down-clause-loads g c =

@@ -6,7 +6,7 @@ use Rattle.action_log.specs.Logs.{LogPlace, Writing}
 use Rattle.action_log.specs.LogSteps.{LogsStep}
 use Rattle.action_log.specs.Stands.{Stands}
 use Rattle.workers.specs.Logging.{receipt_by}
-use Rattle.workers.proofs.Calling.{log_calls_one}
+use Rattle.restart.proofs.Calling.{log_calls_one}
 use Rattle.std.proofs.lemmas.Bool.{false_from_ne_true}
 use Rattle.workers.proofs.Receipts.{step_receipt}
 use Rattle.workers.proofs.log_writer.advance.advance.Goals as goal

@@ -12,6 +12,7 @@ invariant_of-self-2 g c =
     let number : c.wait-answer.result.number ≡ c.self.inside.ended + 1 = ap (λ (u : Unposted). u.number) waits in
     owes_tick _ c.play-played.new.front c.hears_down.new.heard c.self.invariant (search rules)
     (record { tick = c.in-Ok.played.0; answer = c.wait-answer.result }) c.args.ask requests
+    (c.batch.ensures ∙ sym (ap (λ (u : Unposted). u.asked.requests) waits))
     (ap (λ (u : Unposted). u.asked) waits ∙ c.take_buffer-buffer.ensures) (search rules) c.play-played.ensures.rounds c.in-Ok.ensures.tick
     (ap (λ (u : Unposted). u.text) waits ∙ (c.in-Ok.ensures.text ∙ ap (λ (n : ℕ). answer requests c.self.inside.front.live n) (sym number)))
     number c.in-Ok.ensures.words (search rules) c.play-played.ensures.untouched
