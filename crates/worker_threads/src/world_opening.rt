@@ -1,7 +1,7 @@
 ghost use Rattle.std.specs.Prelude.{◌≡◌, ◌⊎◌, ℕ, List, false, length, IsTrue, IfOk, IfErr};
 ghost use Rattle.std.specs.Prelude.{MatchResult};
 ghost use Rattle.world_actions.specs.declared.action.Action.{Action};
-ghost use Rattle.disk_model.specs.FourFiles.{fault_counts};
+ghost use Rattle.disk_model.specs.FourFiles.{EachFile, StaysFilled, fault_counts};
 ghost use Rattle.image_files.specs.declared.phase.Phase.TheVariants.{Idle};
 ghost use Rattle.engine.specs.Follows.{AreSound, Follows};
 ghost use Rattle.engine.specs.Parts.{AreAtRest, AreSettled};
@@ -23,7 +23,7 @@ use world_start::Start;
 
 /// Opens a world for its workers that was recovered from its files, and runs its start to the end.
 /// The front keeps the list of the recovered words. If it is refused, it gives the files back: they
-/// still recover to that world.
+/// still recover to that world. No crash empties a file that had a byte.
 pub fn start_world<M: Method, C: Capture, D: Disk + Drop>(
     alloc: Global,
     begun: Start<C, D>,
@@ -44,6 +44,10 @@ pub fn start_world<M: Method, C: Capture, D: Disk + Drop>(
         (λ opened. AreSound D.Disk (files_of opened.images opened.log)
         first ticks acknowledged)
         (λ refused. AreSound D.Disk refused.0 first ticks acknowledged) }
+    ensures filled { IsTrue D.honest → MatchResult result
+        (λ opened. EachFile begun.engine.files (files_of opened.images opened.log)
+        (StaysFilled D.Disk))
+        (λ refused. EachFile begun.engine.files refused.0 (StaysFilled D.Disk)) }
     ensures refused { IfErr result (λ refused. (refused.1 ≡ Refusal.NoMemory)
         ⊎ (refused.1 ≡ Refusal.Device)) }
     ensures device { IfErr result (λ refused. refused.1 ≡ Refusal.Device

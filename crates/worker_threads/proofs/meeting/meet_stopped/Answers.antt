@@ -12,3 +12,9 @@ returns-clause-heard g c = heard_of_down c.meet_workers.new.log_writer.reported_
 
 pub returns-clause-in_turn : goal.returns-clause-in_turn
 returns-clause-in_turn g c = c.meet_workers.ensures.is_mutator.in_turn
+
+pub returns-clause-filled : goal.returns-clause-filled
+returns-clause-filled g c = λ honest.
+    let images = c.meet_workers.ensures.is_checkpointer.filled honest in
+    let log = c.meet_workers.ensures.is_log_writer.filled honest in
+    record { image_a = images.0; image_b = images.1; log_a = log.0; log_b = log.1 }

@@ -1,12 +1,12 @@
 use Rattle.std.proofs.Common.{sym, ap, subst, ◌∙◌}
 use Rattle.std.proofs.lemmas.Result.{IfOk-weaker}
-use Rattle.disk_model.specs.FourFiles.{fault_counts}
+use Rattle.disk_model.specs.FourFiles.{EachFile, StaysFilled, fault_counts}
 use Rattle.disk_model.specs.declared.four_files.FourFiles.{FourFiles}
 use Rattle.image_files.specs.Progress.{Progress as ImageProgress}
 use Rattle.action_log.specs.declared.progress.Progress.{Progress as LogProgress}
 use Rattle.engine.specs.Follows.{AreSound}
 use Rattle.engine.specs.Runs.{SomeGrew}
-use Rattle.worker_threads.proofs.Opening.{both_sound}
+use Rattle.worker_threads.proofs.Opening.{both_hold}
 use Rattle.worker_threads.proofs.world_opening.start_world.Goals as goal
 
 pub into_parts-requires-clause-words : goal.into_parts-requires-clause-words
@@ -30,7 +30,7 @@ returns-in-Ok-clause-sound g c = λ honest newest first ticks acknowledged follo
     let left = c.start.new.self.files in
     let on = c.start.ensures.follows honest first ticks acknowledged follows in
     let sound = c.followed_files_are_sound.ensures.begun c.start.new.self first ticks acknowledged (c.start.ensures.newest newest) on in
-    both_sound D first ticks acknowledged c.into_parts.result.files left c.seated.result (λ opened. opened.images) (λ opened. opened.log)
+    both_hold (λ files. AreSound D files first ticks acknowledged) c.into_parts.result.files left c.seated.result (λ opened. opened.images) (λ opened. opened.log)
     (c.into_parts.ensures.files) c.seated.ensures.files c.seated.ensures.refused sound
 
 pub returns-in-Err-clause-sound : goal.returns-in-Err-clause-sound
@@ -44,3 +44,8 @@ returns-in-Err-clause-device g c = λ _.
     let faults = g.D.Disk.faults in
     subst (λ (left : FourFiles g.row.D.Denot). SomeGrew (fault_counts faults c.args.begun.engine.files) (fault_counts faults left)) (sym c.into_files.ensures)
     (c.in-Err.ensures.device c.requires.up.0 c.requires.up.1)
+
+pub returns-in-Ok-clause-filled : goal.returns-in-Ok-clause-filled
+returns-in-Ok-clause-filled g c = λ honest.
+    both_hold (λ files. EachFile c.args.begun.engine.files files (StaysFilled g.D.Disk)) c.into_parts.result.files c.start.new.self.files c.seated.result
+    (λ opened. opened.images) (λ opened. opened.log) c.into_parts.ensures.files c.seated.ensures.files c.seated.ensures.refused (c.start.ensures.filled honest)
