@@ -69,22 +69,19 @@ pub fn accept_sessions<
     ensures memory { result.closed ≡ Closed.NoMemory → result.connections ≡ 0 }
     ensures joined { result.closed ≢ Closed.Left
         → result.connections ≡ result.sessions.count + result.unserved }
+    ensures idle { result.closed ≢ Closed.Left → result.sessions.idle ≡ admission.idle }
 {
-    let Ok(mut sessions) = Sessions::new(alloc, asks) else {
+    let idle = admission.idle;
+    let Ok(mut sessions) = Sessions::new(alloc, asks, idle) else {
         return Accepted {
             connections: 0,
-            sessions: JoinedSessions::none(),
+            sessions: JoinedSessions::none(idle),
             unserved: 0,
             closed: Closed::NoMemory,
         };
     };
-    let mut shared = Shared {
-        alloc,
-        idle: admission.idle,
-        spins,
-        door,
-    };
-    let mut incoming = Incoming::new(listener);
+    let mut shared = Shared { alloc, spins, door };
+    let mut incoming = Incoming::new(listener, idle);
     shared.door.opened();
     let closed = accept_all(
         rt,
@@ -112,12 +109,13 @@ fn finish<R: Threads + Wait + Clock, W: Door>(
     ensures connections { result.connections ≡ connections }
     ensures joined { result.closed ≢ Closed.Left
         → result.connections ≡ result.sessions.count + result.unserved }
+    ensures idle { result.closed ≢ Closed.Left → result.sessions.idle ≡ sessions.joined.idle }
 {
     let unserved = connections - sessions.started();
     match (closed, sessions.join_all(rt, door)) {
         (Closed::Left, _) | (_, None) => Accepted {
             connections,
-            sessions: JoinedSessions::none(),
+            sessions: JoinedSessions::none(None),
             unserved,
             closed: Closed::Left,
         },
@@ -142,11 +140,13 @@ fn accept_all<
     shared: &mut Shared<W>,
     sessions: &mut Sessions,
 ) -> Closed
-    requires { (sessions.old.started ≡ 0) × (incoming.old.came ≡ 0) }
+    requires none { (sessions.old.started ≡ 0) × (incoming.old.came ≡ 0) }
+    requires idle { incoming.old.idle ≡ sessions.old.joined.idle }
     ensures all { result ≡ Closed.AllCame → incoming.new.came ≡ clients }
     ensures memory { result ≢ Closed.NoMemory }
     ensures some { incoming.new.came ≤ clients }
     ensures started { sessions.new.started ≤ incoming.new.came }
+    ensures same { sessions.new.joined.idle ≡ sessions.old.joined.idle }
 {
     let mut shortage = Shortage::none();
     for _ in rt.forever() {
@@ -158,9 +158,9 @@ fn accept_all<
             return Closed::AllCame;
         }
         match incoming.next() {
-            Ok(stream) => {
+            Ok(connection) => {
                 shortage.pass(&mut shared.door);
-                if let Err(why) = sessions.start(rt, stream, shared) {
+                if let Err(why) = sessions.start(rt, connection, shared) {
                     shared.door.session_refused(why);
                 }
             }

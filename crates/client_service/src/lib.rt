@@ -7,6 +7,7 @@
 #![tactic(auto)]
 
 mod accept;
+mod connection;
 mod door;
 mod failure;
 mod incoming;
@@ -17,6 +18,7 @@ mod session;
 mod session_threads;
 
 pub use accept::{Accepted, Admission, Closed, accept_sessions};
+pub use connection::Connection;
 pub use door::{Door, Unserved};
 pub use pulse::{Counts, Pulse};
 pub use remote::Remote;

@@ -1,4 +1,5 @@
 ghost use Rattle.std.specs.Prelude.{◌≡◌, ◌≢◌, ◌+◌, ◌≤◌, IsTrue, IfOk, IfErr};
+ghost use Rattle.disk_model.specs.FourFiles.{EachFile, StaysFilled};
 ghost use Rattle.workers.specs.AskOrder.{PlaysInTurn};
 ghost use Rattle.workers.specs.Meeting.{HeardOnlyOfDown};
 ghost use Rattle.worker_steps.specs.Stopped.{StaysSound};
@@ -77,12 +78,17 @@ pub fn serve_clients<
     ensures stays { IfOk result (λ stopped. stopped.accepted.closed ≢ Closed.Left) }
     ensures joined { IfOk result (λ stopped. stopped.accepted.connections
         ≡ stopped.accepted.sessions.count + stopped.accepted.unserved) }
+    ensures idle { IfOk result (λ stopped. stopped.accepted.sessions.idle ≡ admission.idle) }
     ensures began { IfOk result (λ stopped. (stopped.workers.mutator.opening ≡ opened.front.live)
         × (stopped.workers.checkpointer.opening ≡ opened.images)
         × (stopped.workers.log_writer.opening ≡ opened.log)) }
     ensures sound { IsTrue D.honest → IfOk result (λ stopped.
         StaysSound D.Disk opened stopped.workers.mutator stopped.workers.checkpointer
         stopped.workers.log_writer) }
+    ensures filled { IsTrue D.honest → IfOk result (λ stopped.
+        EachFile (files_of opened.images opened.log)
+        (files_of stopped.workers.checkpointer.images stopped.workers.log_writer.log)
+        (StaysFilled D.Disk)) }
     ensures in_turn { IfOk result (λ stopped.
         PlaysInTurn stopped.workers.mutator.asks.taken stopped.workers.mutator.to.items) }
     ensures acked { IfOk result (λ stopped. opened.ended ≤ stopped.workers.log_writer.acked) }

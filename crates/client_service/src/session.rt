@@ -3,14 +3,13 @@ ghost use Rattle.std.specs.Io.KnownBytes.{Appends, Consumes, IsAtEnd};
 ghost use Rattle.sessions.specs.Session.{IsSession, IsCutOff};
 ghost use Rattle.client_service.specs.Remote.{IsPosted};
 
+use crate::connection::Connection;
 use crate::door::{Door, Unserved};
 use crate::remote::Remote;
 use sessions::serve_lines;
 use std::alloc::Global;
 use std::io::{Read, Write};
 use std::sync::Wait;
-use std::time::Duration;
-use transports::Stream;
 use workers::{Asker, Spins};
 use world_actions::Refusal;
 
@@ -48,28 +47,26 @@ pub fn serve_batches<R: Wait + Copy, B: Read, W: Write>(
 }
 
 /// Serves a connection as the session of this asker, until its client leaves. It also ends if the
-/// client neither sends nor takes a byte for `idle` seconds, or by a fault, which ends no other
-/// session. The bytes after a batch that is too long are read and dropped, so that its answer
-/// arrives. The door hears of a session that has no memory.
+/// client neither sends nor takes a byte for as long as the connection waits, or by a fault, which
+/// ends no other session. The bytes after a batch that is too long are read and dropped, so that
+/// its answer arrives. The door hears of a session that has no memory.
 pub fn serve_session<R: Wait + Copy, W: Door + Drop>(
     rt: &R,
     alloc: Global,
-    stream: Stream,
-    idle: Option<u32>,
+    connection: Connection,
     asker: Asker,
     spins: Spins,
     door: W,
 ) -> Over {
     let mut door = door;
-    let silence = idle.map(|seconds| Duration::from_secs(u64::from(seconds)));
-    let _ = stream.set_up(silence);
     let pulse = door.pulse();
     if let Some(pulse) = &pulse {
         pulse.session_began();
     }
     let mut world = Remote::new(*rt, alloc, asker).spinning(spins);
     world.count_for(pulse);
-    let served = serve_batches(alloc, &mut &stream, &mut &stream, &mut world);
+    let stream = connection.stream();
+    let served = serve_batches(alloc, &mut &*stream, &mut &*stream, &mut world);
     match served {
         Err(Refusal::NoMemory) => door.session_refused(Unserved::NoMemory),
         Err(Refusal::BadLine) => {
@@ -83,23 +80,25 @@ pub fn serve_session<R: Wait + Copy, W: Door + Drop>(
     Over(())
 }
 
-/// How many sessions have ended and been joined. Each is counted by what its thread returned.
+/// How many sessions have ended and been joined. Each is counted by what its thread returned. Their
+/// connections end after so many seconds of silence.
 #[derive(Clone, Copy, Debug, PartialEq, Eq)]
 pub struct JoinedSessions {
     count: u32,
+    idle: Option<u32>,
 }
 
 impl JoinedSessions {
-    pub fn none() -> Self
-        ensures { result.count ≡ 0 }
+    pub fn none(idle: Option<u32>) -> Self
+        ensures { result ≡ record { count = 0; idle = idle } }
     {
-        JoinedSessions { count: 0 }
+        JoinedSessions { count: 0, idle }
     }
 
     /// Counts a session that is over. Fewer are counted than were started.
     pub fn add(&mut self, _over: Over, _started: u32)
         requires { self.old.count < _started }
-        ensures { self.new.count ≡ self.old.count + 1 }
+        ensures { self.new ≡ record { count = self.old.count + 1; idle = self.old.idle } }
     {
         self.count += 1;
     }

@@ -2,6 +2,7 @@
 ghost use Rattle.std.specs.Prelude.{◌≡◌, ◌+◌, ◌<◌, OnOk, OnErr, IfOk, IfSome};
 ghost use Rattle.slab.specs.Slab.{slab_len};
 
+use crate::connection::Connection;
 use crate::door::{Door, Unserved};
 use crate::session::{JoinedSessions, Over, serve_session};
 use crossbeam_channel::{Receiver, Sender, bounded};
@@ -10,7 +11,6 @@ use std::alloc::{AllocError, Global};
 use std::sync::Wait;
 use std::thread::{self, JoinHandle, Threads};
 use std::time::{Clock, Duration};
-use transports::Stream;
 use workers::{AskChannel, Asker, Spins};
 
 /// The stack of a session's thread, which needs a tenth of it. The system's own would be 8 MiB, of
@@ -29,8 +29,6 @@ const PATIENCE_MILLISECONDS: u64 = 100;
 #[derive(Drop)]
 pub struct Shared<W: Door + Clone + Drop> {
     pub alloc: Global,
-    /// After how many seconds of silence it ends.
-    pub idle: Option<u32>,
     pub spins: Spins,
     pub door: W,
 }
@@ -48,9 +46,10 @@ pub struct Sessions {
 }
 
 impl Sessions {
-    /// No session yet. They ask on this channel.
-    pub fn new(alloc: Global, asks: AskChannel) -> Result<Self, AllocError>
-        ensures { IfOk result (λ sessions. sessions.started ≡ 0) }
+    /// No session yet. They ask on this channel, and their connections end by this silence.
+    pub fn new(alloc: Global, asks: AskChannel, idle: Option<u32>) -> Result<Self, AllocError>
+        ensures none { IfOk result (λ sessions. sessions.started ≡ 0) }
+        ensures idle { IfOk result (λ sessions. sessions.joined.idle ≡ idle) }
     {
         let (ends, ended) = bounded(alloc, ENDS)?;
         Ok(Sessions {
@@ -59,7 +58,7 @@ impl Sessions {
             ends,
             ended,
             started: 0,
-            joined: JoinedSessions::none(),
+            joined: JoinedSessions::none(idle),
         })
     }
 
@@ -67,11 +66,13 @@ impl Sessions {
     pub fn start<
         R: Threads + Wait + Copy + Send + 'static,
         W: Door + Clone + Drop + Send + 'static,
-    >(&mut self, rt: &R, stream: Stream, shared: &Shared<W>) -> Result<(), Unserved>
-        requires { self.old.started < 4294967295 }
+    >(&mut self, rt: &R, connection: Connection, shared: &Shared<W>) -> Result<(), Unserved>
+        requires room { self.old.started < 4294967295 }
+        requires idle { connection.idle ≡ self.old.joined.idle }
         ensures ok { OnOk result (self.new.started ≡ self.old.started + 1) }
         ensures numbered { OnOk result (self.new.asks.next ≡ self.old.asks.next + 1) }
         ensures err { OnErr result (self.new.started ≡ self.old.started) }
+        ensures same { self.new.joined.idle ≡ self.old.joined.idle }
     {
         let Ok(()) = self.running.reserve(1) else {
             return Err(Unserved::NoMemory);
@@ -83,7 +84,7 @@ impl Sessions {
             return Err(Unserved::NoMemory);
         };
         let key = self.running.vacant_key();
-        let session = start_thread(rt, stream, shared, asker, ends, key)?;
+        let session = start_thread(rt, connection, shared, asker, ends, key)?;
         self.running.insert_reserved(session);
         self.started += 1;
         Ok(())
@@ -91,7 +92,8 @@ impl Sessions {
 
     /// Joins each session that has ended. Its thread is given back to the system.
     pub fn join_ended<R: Threads + Wait>(&mut self, rt: &R)
-        ensures { self.new.started ≡ self.old.started }
+        ensures started { self.new.started ≡ self.old.started }
+        ensures idle { self.new.joined.idle ≡ self.old.joined.idle }
     {
         for _ in rt.forever() {
             match self.ended.try_recv(rt) {
@@ -104,7 +106,8 @@ impl Sessions {
 
     // Joins the session under this key.
     fn join<R: Threads>(&mut self, rt: &R, key: usize)
-        ensures { self.new.started ≡ self.old.started }
+        ensures started { self.new.started ≡ self.old.started }
+        ensures idle { self.new.joined.idle ≡ self.old.joined.idle }
     {
         if let Some(session) = self.running.try_remove(key) {
             self.joined.add(session.join(rt), self.started);
@@ -125,7 +128,8 @@ impl Sessions {
         rt: &R,
         door: &W,
     ) -> Option<JoinedSessions>
-        ensures { IfSome result (λ joined. joined.count ≡ self.started) }
+        ensures count { IfSome result (λ joined. joined.count ≡ self.started) }
+        ensures idle { IfSome result (λ joined. joined.idle ≡ self.joined.idle) }
     {
         let mut sessions = self;
         for _ in rt.forever() {
@@ -147,7 +151,7 @@ impl Sessions {
 // Gives the session of a connection a thread, which sends its key as it ends.
 fn start_thread<R: Threads + Wait + Copy + Send + 'static, W: Door + Clone + Drop + Send + 'static>(
     rt: &R,
-    stream: Stream,
+    connection: Connection,
     shared: &Shared<W>,
     asker: Asker,
     ends: Sender<usize>,
@@ -159,9 +163,9 @@ fn start_thread<R: Threads + Wait + Copy + Send + 'static, W: Door + Clone + Dro
     let Ok(door) = shared.door.clone() else {
         return Err(Unserved::NoMemory);
     };
-    let (here, alloc, idle) = (*rt, shared.alloc, shared.idle);
+    let (here, alloc) = (*rt, shared.alloc);
     let serve = move || {
-        let over = serve_session(&here, alloc, stream, idle, asker, spins, door);
+        let over = serve_session(&here, alloc, connection, asker, spins, door);
         let _ = ends.send(&here, key);
         over
     };
