@@ -14,11 +14,11 @@ use Rattle.world_folder.specs.declared.create_command.NotCreated.{NotCreated}
 use Rattle.world_folder.specs.declared.entry.Identity.{Identity}
 use Rattle.world_folder.specs.declared.new_world.FirstWords.{FirstWords}
 use Rattle.world_folder.specs.declared.new_world.FirstWords.TheVariants.{Zeros, Listed}
-use Rattle.world_folder.specs.CreateCommand.{AreLeft, IsHalfMade}
-use Rattle.world_folder.specs.History.{Act}
+use Rattle.world_folder.specs.CreateCommand.{AreLeft}
+use Rattle.world_folder.specs.History.{Act, IsSyncedInPart}
 use Rattle.world_folder.specs.NewWorld.{HoldNoOther, IsMadeOf, IsUnmade, ReportsUnmade, words_of}
-use Rattle.world_folder.specs.NewWorldFiles.{AreCompleted, AreFound, AreFoundInPart, AreTaken, IsKept, IsOccupied, KeepsThere}
-use Rattle.world_folder.proofs.NewWorldFilesLemmas.{all_kept_still, completed_kept, found_in_part, taken_closed, there_same}
+use Rattle.world_folder.specs.NewWorldFiles.{AreCompleted, AreFound, AreFoundInPart, AreTaken, KeepsThere}
+use Rattle.world_folder.proofs.NewWorldFilesLemmas.{all_kept_still, found_in_part, made_still, none_made, taken_closed, there_same}
 
 no_memory_is_device : (refusal : Refusal) → refusal ≡ NoMemory → Fault refusal ≡ Fault Device → ⊥
 no_memory_is_device refusal memory device = cc
@@ -34,19 +34,27 @@ module _ {D : Type 0} (disk : Ghosts D) where
 
 module _ {D : Type 0} (identity : D → Identity) (disk : Ghosts D) where
   -- files that were only looked for
-  pub left_found : (words : FirstWords) (files : FourFiles (Option D)) (before after : List Act) → AreFoundInPart identity files before after → AreLeft identity disk words files before
-  left_found words files before after found = record { there = files; looked = after; found = found; written = inl (there_same disk files) }
+  pub left_found : (words : FirstWords) (files : FourFiles (Option D)) (before after : List Act) → AreFoundInPart identity files before after → AreLeft identity disk words files before after
+  left_found words files before after found = record {
+    there = files;
+    looked = after;
+    completed = after;
+    found = found;
+    made = none_made files after;
+    named = inl refl;
+    written = inl (there_same disk files);
+  }
 
   -- no file was opened
-  pub left_none : (words : FirstWords) (files : FourFiles (Option D)) (before : List Act) → files ≡ each_of None → AreLeft identity disk words files before
+  pub left_none : (words : FirstWords) (files : FourFiles (Option D)) (before : List Act) → files ≡ each_of None → AreLeft identity disk words files before before
   left_none words files before none = left_found words files before before (record {
     with_image_a = before;
     with_image_b = before;
     with_log_a = before;
-    image_a = inr (ap (λ it. it.image_a) none);
-    image_b = inr (ap (λ it. it.image_b) none);
-    log_a = inr (ap (λ it. it.log_a) none);
-    log_b = inr (ap (λ it. it.log_b) none);
+    image_a = inr (ap (λ it. it.image_a) none, inl refl);
+    image_b = inr (ap (λ it. it.image_b) none, inl refl);
+    log_a = inr (ap (λ it. it.log_a) none, inl refl);
+    log_b = inr (ap (λ it. it.log_b) none, inl refl);
   })
 
   -- the command ends before it opens a file
@@ -55,28 +63,33 @@ module _ {D : Type 0} (identity : D → Identity) (disk : Ghosts D) where
   ends_before Q ending (Ok value) is f = tt
   ends_before Q ending (Err failed) is f = f failed is.0
 
-  -- those files that weren't there were made
-  pub left_completed : (words : FirstWords) (there files : FourFiles (Option D)) (before looked after : List Act) → AreFound identity there before looked
-      → AreCompleted disk there files looked after → AreLeft identity disk words files before
-  left_completed words there files before looked after found completed = record {
+  -- those files that weren't there were made, up to a call that failed
+  pub left_completed : (words : FirstWords) (there files : FourFiles (Option D)) (before looked completed after : List Act) → AreFound identity there before looked
+      → AreCompleted disk there files looked completed → IsSyncedInPart completed after → AreLeft identity disk words files before after
+  left_completed words there files before looked completed after found is named = record {
     there = there;
     looked = looked;
+    completed = completed;
     found = found_in_part identity there before looked found;
-    written = inl (completed_kept disk there files looked after completed);
+    made = is.made;
+    named = named;
+    written = inl is.kept;
   }
 
   -- no world was made of the files that were taken
   pub left_taken : (words : FirstWords) (files half : FourFiles D) (left : FourFiles (Option D)) (folder : List ℕ) (ending : Ending) (before after : List Act) → left ≡ mapped Some half
       → AreTaken disk identity files before after → IsUnmade disk folder files words ending half
-      → (ending ≡ Fault Device → SomeGrew (fault_counts disk.faults files) (fault_counts disk.faults half)) → AreLeft identity disk words left before
+      → (ending ≡ Fault Device → SomeGrew (fault_counts disk.faults files) (fault_counts disk.faults half)) → AreLeft identity disk words left before after
   left_taken words files half left folder ending before after all taken unmade device =
-      let kept = completed_kept disk taken.there (mapped Some files) taken.looked taken.made taken.completed in
-      record {
+      let kept = taken.completed.kept in
+      subst (λ (it : FourFiles (Option D)). AreLeft identity disk words it before after) (sym all) (record {
         there = taken.there;
         looked = taken.looked;
+        completed = taken.made;
         found = found_in_part identity taken.there before taken.looked taken.found;
-        written = subst (λ (it : FourFiles (Option D)). EachFile taken.there it (IsKept disk) ⊎ IsHalfMade identity disk words taken.there it) (sym all)
-            (⊎_elim
+        made = made_still taken.there files half taken.looked taken.made taken.completed.made;
+        named = inr (inr taken.named);
+        written = ⊎_elim
             (λ read. inl (all_kept_still disk taken.there (mapped Some files) (mapped Some half) kept
             (record { image_a = read.image_a; image_b = read.image_b; log_a = read.log_a; log_b = read.log_b })))
             (λ failed. inr (record {
@@ -88,8 +101,8 @@ module _ {D : Type 0} (identity : D → Identity) (disk : Ghosts D) where
               failed = device failed;
               safe = unmade.safe taken.synced_files (taken_closed disk identity files before after taken);
             }))
-            (read_or_failed ending unmade.reported unmade.kept));
-      }
+            (read_or_failed ending unmade.reported unmade.kept);
+      })
     where
       read_or_failed : (ending : Ending) → ReportsUnmade disk.content folder files ending → (ending ≢ Fault Device → EachFile files half (KeepsFile disk))
           → EachFile files half (KeepsFile disk) ⊎ (ending ≡ Fault Device)

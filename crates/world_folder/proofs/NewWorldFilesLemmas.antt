@@ -1,5 +1,5 @@
 -- Files of which none is open hold no world.
-use Rattle.std.proofs.Common.{◌≡◌, ◌≤◌, ℕ, List, [], true, false, Option, Some, None, length, refl, sym, subst, ap, ◌∙◌, inl, inr, ⊎_elim, arith}
+use Rattle.std.proofs.Common.{◌≡◌, ◌≤◌, ℕ, Result, Ok, Err, OnErr, List, [], true, false, Option, Some, None, length, refl, sym, subst, ap, ◌∙◌, inl, inr, ⊎_elim, arith}
 use Rattle.std.specs.Prelude.{get_or, nat_le, ◌==◌}
 use Rattle.std.proofs.lemmas.Bool.{cases_lt}
 use Rattle.std.proofs.lemmas.Grind.{common_steps}
@@ -15,7 +15,8 @@ use Rattle.world_folder.proofs.NewWorldLemmas.{kept_on, kept_same}
 use Rattle.image_files.specs.Image.{Closed, image_of}
 use Rattle.action_log.specs.Segment.{ClosedSegment, IsSegment}
 use Rattle.world_start.specs.Fresh.{FilesAreClosed}
-use Rattle.world_folder.specs.NewWorldFiles.{IsOpenFile, IsOpenThere, IsOccupied, IsKept, KeepsThere, IsReady, IsSyncedIfThere, EachSynced, AreCompleted, AreFound, AreFoundInPart, AreTaken}
+use Rattle.world_folder.specs.NewWorldFiles.{IsOpenFile, IsOpenThere, IsOccupied, IsKept, KeepsThere, IsMadeIfAbsent, AreMadeIfAbsent}
+use Rattle.world_folder.specs.NewWorldFiles.{IsSyncedIfThere, EachSynced, AreCompleted, AreFound, AreFoundInPart, AreTaken}
 use Rattle.world_folder.specs.History.{Act}
 use Rattle.world_folder.specs.NewWorld.{ReportsUnmade}
 use Rattle.world_folder.specs.declared.ending.Ending.{Ending}
@@ -66,11 +67,6 @@ module _ {D : Type 0} (disk : Ghosts D) where
   kept_still (Some there) (Some old) None first second = absurd second
   kept_still (Some there) (Some old) (Some new) first second = kept_on disk first second
 
-  ready_kept : (file : WorldFile) (there ready : Option D) (before after : List Act) → IsReady disk file there ready before after → IsKept disk there ready
-  ready_kept file there None before after is = absurd is
-  ready_kept file None (Some ready) before after is = is.2
-  ready_kept file (Some there) (Some ready) before after is = subst (λ (it : D). KeepsFile disk there it) (sym is.0) (kept_same disk there)
-
   pub there_same : (there : FourFiles (Option D)) → EachFile there there (IsKept disk)
   there_same there = record { image_a = same there.image_a; image_b = same there.image_b; log_a = same there.log_a; log_b = same there.log_b }
     where
@@ -94,15 +90,27 @@ module _ {D : Type 0} (disk : Ghosts D) where
     log_b = kept_still there.log_b old.log_b new.log_b first.log_b second.log_b;
   }
 
-  pub completed_kept : (there files : FourFiles (Option D)) (before after : List Act) → AreCompleted disk there files before after → EachFile there files (IsKept disk)
-  completed_kept there files before after completed =
-      let ready = completed.ready in
-      all_kept_then there completed.read files completed.kept (record {
-        image_a = ready_kept ImageA _ files.image_a _ _ ready.image_a;
-        image_b = ready_kept ImageB _ files.image_b _ _ ready.image_b;
-        log_a = ready_kept LogA _ files.log_a _ _ ready.log_a;
-        log_b = ready_kept LogB _ files.log_b _ _ ready.log_b;
-      })
+  -- files that were only read, and then those that are made of them
+  pub completed_then : (old mid new : FourFiles (Option D)) (before after : List Act) → EachFile old mid (KeepsThere disk) → EachFile mid new (IsKept disk)
+      → AreMadeIfAbsent mid new before after → AreCompleted disk old new before after
+  completed_then old mid new before after read kept made = record {
+    kept = all_kept_then old mid new read kept;
+    made = record {
+      with_image_a = made.with_image_a;
+      with_image_b = made.with_image_b;
+      with_log_a = made.with_log_a;
+      image_a = then_made ImageA old.image_a mid.image_a new.image_a _ _ read.image_a made.image_a;
+      image_b = then_made ImageB old.image_b mid.image_b new.image_b _ _ read.image_b made.image_b;
+      log_a = then_made LogA old.log_a mid.log_a new.log_a _ _ read.log_a made.log_a;
+      log_b = then_made LogB old.log_b mid.log_b new.log_b _ _ read.log_b made.log_b;
+    };
+  }
+    where
+      then_made : (file : WorldFile) (old mid new : Option D) (before after : List Act) → KeepsThere disk old mid → IsMadeIfAbsent file mid new before after → IsMadeIfAbsent file old new before after
+      then_made file None None new before after read made = made
+      then_made file None (Some mid) new before after read made = absurd cc
+      then_made file (Some old) None new before after read made = absurd read
+      then_made file (Some old) (Some mid) new before after read made = made
 
   -- nothing of files is unsynced that were synced and then only read, or are new
   synced_kept : (there : Option D) (it : D) → IsSyncedIfThere disk there → IsKept disk there (Some it) → Only (disk.content it) (disk.may_leave it)
@@ -130,13 +138,52 @@ module _ {D : Type 0} (disk : Ghosts D) where
   pub taken_closed : (identity : D → Identity) (files : FourFiles D) (before after : List Act) → AreTaken disk identity files before after → FilesAreClosed disk.content files
   taken_closed identity files before after taken =
       let none = taken.none_open in
-      let kept = completed_kept taken.there (mapped Some files) taken.looked taken.made taken.completed in
+      let kept = taken.completed.kept in
       record {
         image_a_closed = image_kept taken.there.image_a files.image_a none.image_a kept.image_a;
         image_b_closed = image_kept taken.there.image_b files.image_b none.image_b kept.image_b;
         log_a_closed = segment_kept taken.there.log_a files.log_a none.log_a kept.log_a;
         log_b_closed = segment_kept taken.there.log_b files.log_b none.log_b kept.log_b;
       }
+
+-- what holds also holds if a call failed
+pub on_error : {T E P : Type 0} (result : Result T E) → P → OnErr result P
+on_error (Ok value) is = tt
+on_error (Err error) is = is
+
+-- a file for which no call was made
+pub unmade : {D : Type 0} (file : WorldFile) (it : Option D) (acts : List Act) → IsMadeIfAbsent file it it acts acts
+unmade file None acts = inl refl
+unmade file (Some it) acts = refl
+
+-- no file was made
+pub none_made : {D : Type 0} (files : FourFiles (Option D)) (acts : List Act) → AreMadeIfAbsent files files acts acts
+none_made files acts = record {
+  with_image_a = acts;
+  with_image_b = acts;
+  with_log_a = acts;
+  image_a = unmade ImageA files.image_a acts;
+  image_b = unmade ImageB files.image_b acts;
+  log_a = unmade LogA files.log_a acts;
+  log_b = unmade LogB files.log_b acts;
+}
+
+-- the files may be written later
+pub made_still : {D : Type 0} (there : FourFiles (Option D)) (files half : FourFiles D) (before after : List Act) → AreMadeIfAbsent there (mapped Some files) before after
+    → AreMadeIfAbsent there (mapped Some half) before after
+made_still {D} there files half before after made = record {
+  with_image_a = made.with_image_a;
+  with_image_b = made.with_image_b;
+  with_log_a = made.with_log_a;
+  image_a = still ImageA there.image_a files.image_a half.image_a _ _ made.image_a;
+  image_b = still ImageB there.image_b files.image_b half.image_b _ _ made.image_b;
+  log_a = still LogA there.log_a files.log_a half.log_a _ _ made.log_a;
+  log_b = still LogB there.log_b files.log_b half.log_b _ _ made.log_b;
+}
+  where
+    still : (file : WorldFile) (there : Option D) (one other : D) (before after : List Act) → IsMadeIfAbsent file there (Some one) before after → IsMadeIfAbsent file there (Some other) before after
+    still file None one other before after made = made
+    still file (Some there) one other before after made = made
 
 -- files that were looked for
 pub found_in_part : {D : Type 0} (identity : D → Identity) (files : FourFiles (Option D)) (before after : List Act) → AreFound identity files before after → AreFoundInPart identity files before after

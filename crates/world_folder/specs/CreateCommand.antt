@@ -7,10 +7,11 @@ use Rattle.world_actions.specs.declared.refusal.Refusal.TheVariants.{NoMemory}
 use Rattle.engine.specs.Follows.{AreSound}
 use Rattle.engine.specs.Runs.{SomeGrew}
 use Rattle.world_start.specs.Opening.{AreSynced}
-use Rattle.world_folder.specs.NewWorldFiles.{AreFound, AreFoundInPart, AreTaken, IsKept}
+use Rattle.world_folder.specs.NewWorldFiles.{AreFound, AreFoundInPart, AreMadeIfAbsent}
+use Rattle.world_folder.specs.NewWorldFiles.{AreTaken, IsKept}
 use Rattle.world_folder.specs.NewWorldFiles.{KeepsThere, NoneIsOpen, ReportsOpen}
 use Rattle.world_folder.specs.NewWorld.{HoldNoOther, IsMadeOf, count_of, words_of}
-use Rattle.world_folder.specs.History.{Act, Printed}
+use Rattle.world_folder.specs.History.{Act, IsSyncedInPart, Printed}
 use Rattle.world_folder.specs.Texts.{created_text}
 use Rattle.world_folder.specs.declared.entry.Identity.{Identity}
 use Rattle.world_folder.specs.declared.ending.Ending.{Ending}
@@ -57,28 +58,31 @@ module _ {D : Type 0} (identity : D → Identity) (disk : Ghosts D) where
     pub safe : HoldNoOther disk words half
 
   -- The files that are there were opened, and then only read. Others are new at most, and nothing
-  -- was written to them. Only if a file's call failed more was written.
+  -- was written to them. Only if a file's call failed more was written. A file that isn't open here
+  -- was not written: it was looked for, opened or made at most, up to a call that failed.
   pub record AreLeft (words : FirstWords) (left : FourFiles (Option D))
-      (before : List Act) : Type 0 where
+      (before after : List Act) : Type 0 where
     pub there : FourFiles (Option D)
     pub looked : List Act
+    pub completed : List Act
     pub found : AreFoundInPart identity there before looked
+    pub made : AreMadeIfAbsent there left looked completed
+    pub named : IsSyncedInPart completed after
     pub written : EachFile there left (IsKept disk) ⊎ IsHalfMade words there left
 
   -- the world was made, and a print failed
   pub record IsUnprinted (words : FirstWords) (left : FourFiles (Option D)) (ending : Ending)
-      (before : List Act) : Type 0 where
+      (before after : List Act) : Type 0 where
     pub of_print : IsOfPrint ending
     pub made : FourFiles D
     pub all : left ≡ mapped Some made
-    pub acts : List Act
-    pub world : IsMadeIn words made before acts
+    pub world : IsMadeIn words made before after
 
   -- no world was reported
   abbrev pub IsNotCreated : FirstWords → (left : FourFiles (Option D)) → Ending
-      → (before : List Act) → Type 0
-  IsNotCreated words left ending before =
-      AreLeft words left before ⊎ IsUnprinted words left ending before
+      → (before after : List Act) → Type 0
+  IsNotCreated words left ending before after =
+      AreLeft words left before after ⊎ IsUnprinted words left ending before after
 
 -- the ending of a command that made these files: it names them, if a file failed or
 -- memory ran out

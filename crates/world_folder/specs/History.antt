@@ -15,8 +15,8 @@ use Rattle.disk_model.specs.declared.world_file.WorldFile.TheVariants.{ImageA, I
 pub data Act : Type 0 where
   -- this is what stands under a name, if anything does
   Looked : WorldFile → Option Entry → Act
-  -- the file to which a name leads was opened to be written: it is this one
-  Opened : WorldFile → Entry → Act
+  -- the file to which a name leads was opened to be written: it is this one, and has these bytes
+  Opened : WorldFile → Entry → List ℕ → Act
   -- a new file was made under a name
   Made : WorldFile → Entry → Act
   -- this program has the lock of this file
@@ -81,6 +81,18 @@ with_lock ImageB entry acts = acts
 with_lock LogA entry acts = acts
 with_lock LogB entry acts = acts
 
+-- A file was opened or made by this act, and its lock was taken if it is image.a, up to a call that
+-- failed.
+abbrev pub IsTakenInPart : (file : WorldFile) → (Entry → Act) → (before after : List Act) → Type 0
+IsTakenInPart file act before after =
+    (after ≡ before) ⊎ ((entry : Entry)
+    × ((after ≡ act entry ∷ before) ⊎ (after ≡ with_lock file entry (act entry ∷ before))))
+
 -- the names of the files are durable, and then the folder's own
 abbrev pub synced : List Act → List Act
 synced acts = OwnNameSynced ∷ NamesSynced ∷ acts
+
+-- the names are durable up to a call that failed
+abbrev pub IsSyncedInPart : (before after : List Act) → Type 0
+IsSyncedInPart before after =
+    (after ≡ before) ⊎ ((after ≡ NamesSynced ∷ before) ⊎ (after ≡ synced before))

@@ -7,7 +7,7 @@ use Rattle.world_actions.specs.declared.refusal.Refusal.TheVariants.{NoMemory, D
 use Rattle.file_format.specs.Gate.{HasOpenGate}
 use Rattle.disk_model.specs.Disk.{Only}
 use Rattle.disk_model.specs.declared.disk.Disk.{Ghosts}
-use Rattle.disk_model.specs.FourFiles.{EachFile, KeepsFile, mapped}
+use Rattle.disk_model.specs.FourFiles.{EachFile, KeepsFile, mapped, value_of}
 use Rattle.world_start.specs.Opening.{AreSynced}
 use Rattle.disk_model.specs.declared.four_files.FourFiles.{FourFiles}
 use Rattle.world_folder.specs.declared.ending.Ending.{Ending}
@@ -15,8 +15,9 @@ use Rattle.world_folder.specs.declared.ending.Ending.TheVariants.{Fault, Occupie
 use Rattle.world_folder.specs.declared.heads.TheConstants.{IMAGE_HEAD, SEGMENT_HEAD}
 use Rattle.world_folder.specs.declared.entry.Entry.{Entry}
 use Rattle.world_folder.specs.declared.entry.Identity.{Identity}
-use Rattle.world_folder.specs.History.{Act, AreInTurn, Made, with_lock, synced}
-use Rattle.world_folder.specs.OwnFile.{AreLookedFor, AreApart, IsOwnIfThere}
+use Rattle.world_folder.specs.History.{Act, AreInTurn, IsTakenInPart, Made, with_lock, synced}
+use Rattle.world_folder.specs.OwnFile.{AreLookedFor, AreApart, IsOpenedInPart}
+use Rattle.world_folder.specs.OwnFile.{IsOwnIfThere}
 use Rattle.disk_model.specs.declared.world_file.WorldFile.{WorldFile}
 use Rattle.disk_model.specs.declared.world_file.WorldFile.TheVariants.{ImageA, ImageB, LogA, LogB}
 use Rattle.disk_model.specs.declared.world_file.TheConstants.{IMAGE_A, IMAGE_B, LOG_A, LOG_B}
@@ -90,7 +91,23 @@ abbrev pub AreFoundInPart : {D : Type 0} (identity : D → Identity) → FourFil
     → (before after : List Act) → Type 0
 AreFoundInPart {D} identity files before after =
     AreInTurn (λ (file : WorldFile) (found : Option D) (acts next : List Act).
-    IsOwnIfThere identity file found acts next ⊎ (found ≡ None)) files before after
+    IsOwnIfThere identity file found acts next
+    ⊎ ((found ≡ None) × IsOpenedInPart file acts next)) files before after
+
+-- A file that was there isn't made. One that wasn't is, up to a call that failed.
+abbrev pub IsMadeIfAbsent : {D : Type 0} (file : WorldFile) → (there now : Option D)
+    → (before after : List Act) → Type 0
+IsMadeIfAbsent file (Some there) now before after = after ≡ before
+IsMadeIfAbsent file None (Some made) before after =
+    (entry : Entry) × (after ≡ with_lock file entry (Made file entry ∷ before))
+IsMadeIfAbsent file None None before after = IsTakenInPart file (Made file) before after
+
+-- those of four files that weren't there were made in turn, up to a call that failed
+abbrev pub AreMadeIfAbsent : {D : Type 0} (there now : FourFiles (Option D))
+    → (before after : List Act) → Type 0
+AreMadeIfAbsent {D} there now before after =
+    AreInTurn (λ (file : WorldFile) (now : Option D) (acts next : List Act).
+    IsMadeIfAbsent file (value_of file there) now acts next) now before after
 
 module _ {D : Type 0} (disk : Ghosts D) where
   -- nothing of a file that is there is unsynced
@@ -112,32 +129,11 @@ module _ {D : Type 0} (disk : Ghosts D) where
   IsKept (Some old) None = ⊥
   IsKept (Some old) (Some new) = KeepsFile disk old new
 
-  -- the file that was there, or a new and empty one, which is synced
-  abbrev pub IsReady : (file : WorldFile) → (there ready : Option D)
-      → (before after : List Act) → Type 0
-  IsReady file there None before after = ⊥
-  IsReady file (Some there) (Some ready) before after = (ready ≡ there) × (after ≡ before)
-  IsReady file None (Some ready) before after =
-      (entry : Entry) × (after ≡ with_lock file entry (Made file entry ∷ before))
-      × IsUnwritten ready
-
-  -- each file of four is the one that was there, or was made under its own name
-  pub record AreReady (there files : FourFiles (Option D))
-      (before after : List Act) : Type 0 where
-    pub with_image_a : List Act
-    pub with_image_b : List Act
-    pub with_log_a : List Act
-    pub image_a : IsReady ImageA there.image_a files.image_a before with_image_a
-    pub image_b : IsReady ImageB there.image_b files.image_b with_image_a with_image_b
-    pub log_a : IsReady LogA there.log_a files.log_a with_image_b with_log_a
-    pub log_b : IsReady LogB there.log_b files.log_b with_log_a after
-
-  -- those files that were there were read, and then the others were made
+  -- the files that were there were only read, and others were made
   pub record AreCompleted (there files : FourFiles (Option D))
       (before after : List Act) : Type 0 where
-    pub read : FourFiles (Option D)
-    pub kept : EachFile there read (KeepsThere disk)
-    pub ready : AreReady read files before after
+    pub kept : EachFile there files IsKept
+    pub made : AreMadeIfAbsent there files before after
 
   -- The four files of a folder in which a world is made, as it found or made them, and the names
   -- are durable. They are synced.

@@ -1,5 +1,5 @@
 //! Recovery of a world, whose files are checked for a loss.
-ghost use Rattle.std.specs.Prelude.{◌≡◌, ◌≤◌, ◌∷◌, None, take, IsTrue, IfOk, IfErr, IfSome};
+ghost use Rattle.std.specs.Prelude.{◌≡◌, ◌≤◌, ◌∷◌, None, take, IsTrue, IfOk, IfErr, OnErr, IfSome};
 ghost use Rattle.std.specs.Prelude.{MatchResult};
 ghost use Rattle.disk_model.specs.FourFiles.{EachFile, KeepsFile};
 ghost use Rattle.world_start.specs.Opening.{IsRead};
@@ -79,6 +79,7 @@ pub fn recover_checked<C: Capture + Drop, D: Disk>(
 pub fn checks_in<F: Source>(folder: &mut F, on_loss: OnLoss) -> Result<Checks, Ending>
     ensures read { IsTrue F.honest → IfOk result (λ checks.
         F.history folder.new ≡ GuardRead checks.guard ∷ F.history folder.old) }
+    ensures failed { IsTrue F.honest → OnErr result (F.history folder.new ≡ F.history folder.old) }
     ensures named { IfOk result (λ checks.
         (checks.lost ≡ on_loss) × (checks.older ≡ OnLoss.Warn)) }
     ensures fault { IfErr result IsFault }

@@ -13,6 +13,7 @@ ghost use Rattle.world_folder.specs.CreateCommand.{IsUnfinished, AreLeft};
 ghost use Rattle.world_folder.specs.NewWorld.{AreFirst, count_of};
 ghost use Rattle.world_folder.specs.Ending.{IsFault, ReportsFailure};
 ghost use Rattle.world_folder.specs.Failing.{failure_there, first_failure};
+ghost use Rattle.world_folder.specs.WordsText.{Lists};
 
 use crate::ending::{Ending, Unlisted, ending_of_print};
 use crate::folders::Folder;
@@ -61,12 +62,15 @@ pub fn create_of_words<R: Files<File = File> + AllocGlobal, F: Folder>(
     asked: Option<u32>,
 ) -> Result<(FourFiles<F::File>, Made), NotCreated<F::File>>
     ensures created { IsTrue F.honest → IsTrue F.File.honest → IfOk result (λ created.
-        (words : Bor (List ℕ)) × IsCreated F.identity F.File.Disk (FirstWords.Listed words)
+        (text : List ℕ) × (words : Bor (List ℕ)) × Lists words.now text
+        × IsCreated F.identity F.File.Disk (FirstWords.Listed words)
         created.0 (F.history folder.old) (F.history folder.new)) }
     ensures cells { IfOk result (λ created. IfSome asked (λ cells. created.1.cells ≡ cells)) }
     ensures left { IsTrue F.honest → IsTrue F.File.honest → IfErr result (λ failed.
-        (words : TheWords) × IsNotCreated F.identity F.File.Disk words failed.files failed.ending
-        (F.history folder.old)) }
+        ((failed.files ≡ each_of None) × (folder.new ≡ folder.old))
+        ⊎ ((text : List ℕ) × (words : Bor (List ℕ)) × Lists words.now text
+        × IsNotCreated F.identity F.File.Disk (FirstWords.Listed words) failed.files failed.ending
+        (F.history folder.old) (F.history folder.new))) }
     ensures fault { IfErr result (λ failed. IsFault failed.ending) }
 {
     let listed = read_list(rt, list, asked)?;
@@ -90,7 +94,8 @@ pub fn create<F: Folder>(
         (F.path folder.old) failed.ending failed.files (F.history folder.old)
         (F.history folder.new)) }
     ensures left { IsTrue F.honest → IsTrue F.File.honest → IfErr result (λ failed. IsNotCreated
-        F.identity F.File.Disk words.entry failed.files failed.ending (F.history folder.old)) }
+        F.identity F.File.Disk words.entry failed.files failed.ending (F.history folder.old)
+        (F.history folder.new)) }
     ensures fault { IfErr result (λ failed. IsFault failed.ending) }
 {
     folder.unguarded()?;
@@ -119,7 +124,8 @@ fn make_named<F: Folder>(
         (F.path folder.old) failed.ending failed.files (F.history folder.old)
         (F.history folder.new)) }
     ensures left { IsTrue F.honest → IsTrue F.File.honest → IfErr result (λ failed. AreLeft
-        F.identity F.File.Disk words.entry failed.files (F.history folder.old)) }
+        F.identity F.File.Disk words.entry failed.files (F.history folder.old)
+        (F.history folder.new)) }
     ensures fault { IfErr result (λ failed. IsFault failed.ending) }
 {
     let mut made = FourFiles::each(false);
@@ -148,7 +154,8 @@ fn make_world<F: Folder>(
         (F.path folder.old) failed.ending failed.files (F.history folder.old)
         (F.history folder.new)) }
     ensures left { IsTrue F.honest → IsTrue F.File.honest → IfErr result (λ failed. AreLeft
-        F.identity F.File.Disk words.entry failed.files (F.history folder.old)) }
+        F.identity F.File.Disk words.entry failed.files (F.history folder.old)
+        (F.history folder.new)) }
     ensures fault { IfErr result (λ failed. IsFault failed.ending) }
 {
     let mut files = no_files();
@@ -182,7 +189,7 @@ fn take_files<F: Folder>(
         (F.history folder.old) (F.history folder.new)) }
     ensures left { IsTrue F.honest → IsTrue F.File.honest
         → OnErr result ((words : TheWords) → AreLeft F.identity F.File.Disk words files.new
-        (F.history folder.old)) }
+        (F.history folder.old) (F.history folder.new)) }
     ensures fault { IfErr result IsFault }
 {
     open_present(folder, files)?;
@@ -196,6 +203,7 @@ fn read_list<R: Files<File = File> + AllocGlobal>(
     list: &str,
     asked: Option<u32>,
 ) -> Result<Listed, Ending>
+    ensures listed { IfOk result (λ listed. (text : List ℕ) × Lists listed.words.items text) }
     ensures world { IfOk result (λ listed. IsWorld listed.words.items) }
     ensures count { IfOk result (λ listed. IfSome asked (λ cells.
         length listed.words.items ≡ cells)) }

@@ -114,6 +114,7 @@ pub trait Source {
     fn read_guard(&mut self) -> Result<Option<Guard>, Ending>
         ensures read { IsTrue honest
             → IfOk result (λ guard. history self.new ≡ GuardRead guard ∷ history self.old) }
+        ensures failed { IsTrue honest → OnErr result (history self.new ≡ history self.old) }
         ensures fault { IfErr result IsFault }
         ensures path { path self.new ≡ path self.old };
 
@@ -180,7 +181,9 @@ pub trait Folder: Source {
     fn open(&mut self, file: WorldFile) -> io::Result<Self::Handle>
         ensures opened { IsTrue Self.honest
             → IfOk result (λ handle. Self.history self.new
-            ≡ Opened file (entry_of handle) ∷ Self.history self.old) }
+            ≡ Opened file (entry_of handle) (content_of handle) ∷ Self.history self.old) }
+        ensures failed { IsTrue Self.honest
+            → OnErr result (Self.history self.new ≡ Self.history self.old) }
         ensures path { Self.path self.new ≡ Self.path self.old };
 
     /// Makes a file that only its owner may read and write. One that is there is an error.
@@ -209,13 +212,15 @@ pub trait Folder: Source {
         ensures locked { IsTrue Self.honest
             → OnOk result
             (Self.history self.new ≡ Locked (entry_of handle.now) ∷ Self.history self.old) }
+        ensures failed { IsTrue Self.honest
+            → OnErr result (Self.history self.new ≡ Self.history self.old) }
         ensures path { Self.path self.new ≡ Self.path self.old };
 
     /// Takes an open file as a disk, which is synced.
     fn take(&self, handle: Self::Handle) -> io::Result<Self::File>
         ensures file { IsTrue Self.honest
             → IfOk result (λ disk. identity disk ≡ (entry_of handle).identity) }
-        ensures content { IsTrue Self.honest → IsTrue Self.File.honest
+        ensures content { IsTrue Self.honest
             → IfOk result (λ disk. Self.File.content disk ≡ content_of handle) }
         ensures synced { IsTrue Self.honest → IsTrue Self.File.honest
             → IfOk result (λ disk. Only (Self.File.content disk) (Self.File.may_leave disk)) };

@@ -5,10 +5,12 @@ ghost use Rattle.std.specs.Prelude.{OnOk, OnErr, IfSome, IfNone, IsSome, IsErrAn
 ghost use Rattle.disk_model.specs.FourFiles.{EachFile, KeepsFile, mapped};
 ghost use Rattle.world_folder.specs.NewWorldFiles.{IsOccupied, IsOpenFile, IsOpenThere};
 ghost use Rattle.world_folder.specs.NewWorldFiles.{IsFirstThere, NoneIsOpen, ReportsOpen};
-ghost use Rattle.world_folder.specs.NewWorldFiles.{KeepsThere, IsReady, IsKept};
-ghost use Rattle.world_folder.specs.NewWorldFiles.{AreReady, AreCompleted, AreThere};
+ghost use Rattle.world_folder.specs.NewWorldFiles.{KeepsThere, IsKept, IsUnwritten};
+ghost use Rattle.world_folder.specs.NewWorldFiles.{AreMadeIfAbsent, AreCompleted, AreThere};
+ghost use Rattle.world_folder.specs.NewWorldFiles.{IsMadeIfAbsent};
 ghost use Rattle.disk_model.specs.FourFiles.{with_value};
 ghost use Rattle.world_folder.specs.Ending.{IsFault, NamesFile};
+ghost use Rattle.world_folder.specs.History.{Made, IsTakenInPart};
 
 use crate::ending::{Ending, Occupied};
 use crate::folders::Folder;
@@ -103,10 +105,10 @@ fn make_absent<F: Folder>(
     files: &mut FourFiles<Option<F::File>>,
     made: &mut FourFiles<bool>,
 ) -> Result<(), Ending>
-    ensures ready { IsTrue F.honest → IsTrue F.File.honest → OnOk result (AreReady F.File.Disk
-        files.old files.new (F.history folder.old) (F.history folder.new)) }
+    ensures made { IsTrue F.honest
+        → AreMadeIfAbsent files.old files.new (F.history folder.old) (F.history folder.new) }
     ensures kept { IsTrue F.honest → IsTrue F.File.honest
-        → OnErr result (EachFile files.old files.new (IsKept F.File.Disk)) }
+        → EachFile files.old files.new (IsKept F.File.Disk) }
     ensures all { OnOk result (AreThere files.new) }
     ensures other { IfErr result (λ ending. ¬ IsOccupied ending) }
     ensures fault { IfErr result IsFault }
@@ -123,13 +125,14 @@ fn make_if_absent<F: Folder>(
     there: &mut Option<F::File>,
     made: &mut FourFiles<bool>,
 ) -> Result<(), Ending>
-    ensures ready { IsTrue F.honest → IsTrue F.File.honest → OnOk result (IsReady F.File.Disk file
-        there.old there.new (F.history folder.old) (F.history folder.new)) }
+    ensures acts { IsTrue F.honest → IsMadeIfAbsent file there.old there.new
+        (F.history folder.old) (F.history folder.new) }
+    ensures kept { IsTrue F.honest → IsTrue F.File.honest
+        → IsKept F.File.Disk there.old there.new }
     ensures there { IfSome there.old (λ _. result ≡ Ok tt) }
     ensures none_made { IfSome there.old (λ _. made.new ≡ made.old) }
     ensures made { IfNone there.old (OnOk result (made.new ≡ with_value file true made.old)) }
     ensures some { OnOk result (IsSome there.new) }
-    ensures failed { OnErr result (there.new ≡ there.old) }
     ensures other { IfErr result (λ ending. ¬ IsOccupied ending) }
     ensures fault { IfErr result IsFault }
 {
@@ -145,8 +148,12 @@ fn make_empty<F: Folder>(
     file: WorldFile,
     made: &mut FourFiles<bool>,
 ) -> Result<F::File, Ending>
-    ensures acts { IsTrue F.honest → IsTrue F.File.honest → IfOk result (λ disk. IsReady F.File.Disk
-        file None (Some disk) (F.history folder.old) (F.history folder.new)) }
+    ensures made_whole { IsTrue F.honest → IfOk result (λ disk. IsMadeIfAbsent file None (Some disk)
+        (F.history folder.old) (F.history folder.new)) }
+    ensures made_part { IsTrue F.honest → OnErr result
+        (IsTakenInPart file (Made file) (F.history folder.old) (F.history folder.new)) }
+    ensures unwritten { IsTrue F.honest → IsTrue F.File.honest
+        → IfOk result (IsUnwritten F.File.Disk) }
     ensures made { OnOk result (made.new ≡ with_value file true made.old) }
     ensures other { IfErr result (λ ending. ¬ IsOccupied ending) }
     ensures named { IfErr result (NamesFile (F.path folder.old) file) }
@@ -181,8 +188,8 @@ pub fn complete<F: Folder>(
     files: &mut FourFiles<Option<F::File>>,
     made: &mut FourFiles<bool>,
 ) -> Result<(), Ending>
-    ensures completed { IsTrue F.honest → IsTrue F.File.honest → OnOk result (AreCompleted
-        F.File.Disk files.old files.new (F.history folder.old) (F.history folder.new)) }
+    ensures completed { IsTrue F.honest → IsTrue F.File.honest → AreCompleted F.File.Disk
+        files.old files.new (F.history folder.old) (F.history folder.new) }
     ensures all { OnOk result (AreThere files.new) }
     ensures none_made { IfErr result (λ ending. IsOccupied ending → made.new ≡ made.old) }
     ensures no_act { IfErr result (λ ending. IsOccupied ending → folder.new ≡ folder.old) }
@@ -192,8 +199,6 @@ pub fn complete<F: Folder>(
         → ReportsOpen F.File.content (F.path folder.old) files.old ending) }
     ensures occupied { IsTrue F.File.honest → IfErr result (λ ending. IsOccupied ending
         → EachFile files.old files.new (KeepsThere F.File.Disk)) }
-    ensures kept { IsTrue F.honest → IsTrue F.File.honest
-        → OnErr result (EachFile files.old files.new (IsKept F.File.Disk)) }
     ensures fault { IfErr result IsFault }
 {
     look_for_world(folder, files)?;

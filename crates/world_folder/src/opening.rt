@@ -4,7 +4,7 @@ ghost use Rattle.disk_model.specs.FourFiles.{EachFile, mapped};
 ghost use Rattle.world_folder.specs.Ending.{IsFault, ReportsOf, NamesFile, ReportsFailure};
 ghost use Rattle.world_folder.specs.NewWorldFiles.{IsOccupied};
 ghost use Rattle.world_folder.specs.Failing.{failure_there, first_failure};
-ghost use Rattle.world_folder.specs.History.{NamesSynced, synced};
+ghost use Rattle.world_folder.specs.History.{IsSyncedInPart, NamesSynced, synced};
 ghost use Rattle.world_folder.specs.Left.{KeepsLeft};
 ghost use Rattle.world_folder.specs.OwnFile.{AreApart, AreHeld, AreOwn, IsOwn};
 
@@ -39,6 +39,7 @@ impl fmt::Display for Unreadable {
 pub fn sync_names<F: Folder>(folder: &mut F) -> Result<(), Ending>
     ensures synced { IsTrue F.honest
         → OnOk result (F.history folder.new ≡ synced (F.history folder.old)) }
+    ensures part { IsTrue F.honest → IsSyncedInPart (F.history folder.old) (F.history folder.new) }
     ensures left { IsTrue F.honest → KeepsLeft (F.history folder.old) (F.history folder.new) }
     ensures other { IfErr result (λ ending. ¬ IsOccupied ending) }
     ensures fault { IfErr result IsFault }
@@ -57,7 +58,8 @@ pub fn sync_names<F: Folder>(folder: &mut F) -> Result<(), Ending>
 pub fn open_files<F: Folder>(folder: &mut F) -> Result<FourFiles<F::File>, Ending>
     ensures held { IsTrue F.honest
         → IfOk result (λ files.
-        AreHeld F.identity files (F.history folder.old) (F.history folder.new)) }
+        AreHeld F.identity F.File.content files (F.history folder.old)
+        (F.history folder.new)) }
     ensures fault { IfErr result IsFault }
 {
     let files = open_each(folder)?;
@@ -80,7 +82,8 @@ fn settle<F: Folder>(folder: &mut F, files: &FourFiles<Option<Identity>>) -> io:
 // the files each.
 fn open_each<F: Folder>(folder: &mut F) -> Result<FourFiles<OwnFile<F::File>>, Ending>
     ensures own { IsTrue F.honest → IfOk result (λ files.
-        AreOwn (λ own. F.identity own.disk) files (F.history folder.old) (F.history folder.new)) }
+        AreOwn (λ own. F.identity own.disk) (λ own. F.File.content own.disk) files
+        (F.history folder.old) (F.history folder.new)) }
     ensures identities { IsTrue F.honest
         → IfOk result (λ files.
         EachFile files files (λ own _. own.identity ≡ F.identity own.disk)) }
@@ -97,7 +100,8 @@ fn open_each<F: Folder>(folder: &mut F) -> Result<FourFiles<OwnFile<F::File>>, E
 fn open_named<F: Folder>(folder: &mut F, file: WorldFile) -> Result<OwnFile<F::File>, Ending>
     ensures own { IsTrue F.honest
         → IfOk result (λ own.
-        IsOwn file (F.identity own.disk) (F.history folder.old) (F.history folder.new)) }
+        IsOwn file (F.identity own.disk) (F.File.content own.disk) (F.history folder.old)
+        (F.history folder.new)) }
     ensures identity { IsTrue F.honest → IfOk result (λ own. own.identity ≡ F.identity own.disk) }
     ensures named { IfErr result (NamesFile (F.path folder.old) file) }
     ensures fault { IfErr result IsFault }

@@ -1,9 +1,9 @@
 //! A file that a world has to itself.
 ghost use Rattle.std.specs.Prelude.{◌≡◌, ◌∷◌, false, None, IsTrue, IfOk, IfSome, IfNone, IsOk};
-ghost use Rattle.std.specs.Prelude.{OnOk};
+ghost use Rattle.std.specs.Prelude.{◌⊎◌, ℕ, List, Some, OnOk, OnErr};
 ghost use Rattle.disk_model.specs.Disk.{Only};
-ghost use Rattle.world_folder.specs.History.{Looked, with_lock};
-ghost use Rattle.world_folder.specs.OwnFile.{IsApart, AreApart, IsOwn, IsOnlyFile};
+ghost use Rattle.world_folder.specs.History.{Looked, Opened, IsTakenInPart, with_lock};
+ghost use Rattle.world_folder.specs.OwnFile.{IsApart, AreApart, IsOwn, IsOnlyFile, IsOpenedInPart};
 
 use crate::entry::{Entry, FileKind, Identity};
 use crate::folders::Folder;
@@ -25,7 +25,8 @@ pub struct OwnFile<D> {
 pub fn open_own<F: Folder>(folder: &mut F, file: WorldFile) -> io::Result<OwnFile<F::File>>
     ensures own { IsTrue F.honest
         → IfOk result (λ own.
-        IsOwn file (F.identity own.disk) (F.history folder.old) (F.history folder.new)) }
+        IsOwn file (F.identity own.disk) (F.File.content own.disk) (F.history folder.old)
+        (F.history folder.new)) }
     ensures disk { IsTrue F.honest → IfOk result (λ own. own.identity ≡ F.identity own.disk) }
     ensures path { F.path folder.new ≡ F.path folder.old }
 {
@@ -39,13 +40,16 @@ pub fn open_own<F: Folder>(folder: &mut F, file: WorldFile) -> io::Result<OwnFil
 pub fn find_own<F: Folder>(folder: &mut F, file: WorldFile) -> io::Result<Option<OwnFile<F::File>>>
     ensures own { IsTrue F.honest → IfOk result (λ found.
         IfSome found (λ own.
-        IsOwn file (F.identity own.disk) (F.history folder.old) (F.history folder.new))) }
+        IsOwn file (F.identity own.disk) (F.File.content own.disk) (F.history folder.old)
+        (F.history folder.new))) }
     ensures none { IsTrue F.honest → IfOk result (λ found.
         IfNone found (F.history folder.new ≡ Looked file None ∷ F.history folder.old)) }
     ensures disk { IsTrue F.honest
         → IfOk result (λ found. IfSome found (λ own. own.identity ≡ F.identity own.disk)) }
     ensures synced { IsTrue F.honest → IsTrue F.File.honest → IfOk result (λ found.
         IfSome found (λ own. Only (F.File.content own.disk) (F.File.may_leave own.disk))) }
+    ensures failed { IsTrue F.honest
+        → OnErr result (IsOpenedInPart file (F.history folder.old) (F.history folder.new)) }
     ensures path { F.path folder.new ≡ F.path folder.old }
 {
     match folder.look(file)? {
@@ -62,10 +66,14 @@ fn open_there<F: Folder>(
 ) -> io::Result<OwnFile<F::File>>
     ensures own { IsTrue F.honest
         → IfOk result (λ own.
-        IsOnlyFile file there (F.identity own.disk) (F.history folder.old) (F.history folder.new)) }
+        IsOnlyFile file there (F.identity own.disk) (F.File.content own.disk)
+        (F.history folder.old) (F.history folder.new)) }
     ensures disk { IsTrue F.honest → IfOk result (λ own. own.identity ≡ F.identity own.disk) }
     ensures synced { IsTrue F.honest → IsTrue F.File.honest
         → IfOk result (λ own. Only (F.File.content own.disk) (F.File.may_leave own.disk)) }
+    ensures failed { IsTrue F.honest → OnErr result ((bytes : List ℕ)
+        × IsTakenInPart file (λ entry. Opened file entry bytes) (F.history folder.old)
+        (F.history folder.new)) }
     ensures path { F.path folder.new ≡ F.path folder.old }
 {
     unless_odd(there)?;
@@ -115,10 +123,12 @@ pub fn take_own<F: Folder>(
         (F.history folder.new ≡ with_lock file (F.entry_of handle) (F.history folder.old)) }
     ensures disk { IsTrue F.honest
         → IfOk result (λ disk. F.identity disk ≡ (F.entry_of handle).identity) }
-    ensures content { IsTrue F.honest → IsTrue F.File.honest
+    ensures content { IsTrue F.honest
         → IfOk result (λ disk. F.File.content disk ≡ F.content_of handle) }
     ensures synced { IsTrue F.honest → IsTrue F.File.honest
         → IfOk result (λ disk. Only (F.File.content disk) (F.File.may_leave disk)) }
+    ensures failed { IsTrue F.honest → OnErr result ((F.history folder.new ≡ F.history folder.old)
+        ⊎ (F.history folder.new ≡ with_lock file (F.entry_of handle) (F.history folder.old))) }
     ensures path { F.path folder.new ≡ F.path folder.old }
 {
     if file == WorldFile::ImageA {

@@ -4,7 +4,7 @@ ghost use Rattle.disk_model.specs.FourFiles.{each_of, mapped};
 ghost use Rattle.world_folder.specs.Ending.{IsFault, NamesFile};
 ghost use Rattle.world_folder.specs.NewWorldFiles.{AreFound, AreFoundInPart, EachSynced};
 ghost use Rattle.world_folder.specs.NewWorldFiles.{IsOccupied, IsSyncedIfThere};
-ghost use Rattle.world_folder.specs.OwnFile.{AreLookedFor, IsOwnIfThere};
+ghost use Rattle.world_folder.specs.OwnFile.{AreLookedFor, IsOpenedInPart, IsOwnIfThere};
 
 use crate::ending::Ending;
 use crate::entry::Identity;
@@ -77,6 +77,8 @@ fn find_named<F: Folder>(
     ensures found { IsTrue F.honest → OnOk result (IsOwnIfThere F.identity file present.new
         (F.history folder.old) (F.history folder.new)) }
     ensures failed { OnErr result (present.new ≡ None) }
+    ensures part { IsTrue F.honest
+        → OnErr result (IsOpenedInPart file (F.history folder.old) (F.history folder.new)) }
     ensures identity { IsTrue F.honest
         → IfOk result (λ found. found ≡ option_map F.identity present.new) }
     ensures synced { IsTrue F.honest → IsTrue F.File.honest

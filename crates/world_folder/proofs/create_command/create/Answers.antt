@@ -1,4 +1,6 @@
-use Rattle.std.proofs.Common.{inl, inr, rules}
+use Rattle.std.proofs.Common.{List, inl, inr, rules, subst, sym}
+use Rattle.world_folder.specs.CreateCommand.{IsMadeIn}
+use Rattle.world_folder.specs.History.{Act}
 use Rattle.world_folder.proofs.CreateLemmas.{ends_before, left_none}
 use Rattle.world_folder.proofs.create_command.create.Goals as goal
 
@@ -12,6 +14,6 @@ returns-in-Err-clause-left g c = λ honest honest_files. inr (record {
   of_print = c.ending_of_print.ensures.print;
   made = c.in_ok-files.files;
   all = search rules;
-  acts = _;
-  world = c.in_ok-files.ensures.made honest honest_files;
+  world = subst (λ (acts : List Act). IsMadeIn g.F.Folder.identity g.F.File.Disk c.args.words c.in_ok-files.files (g.F.Source.history c.args.folder.now) acts)
+      (sym (c.in-Err.ensures.failed honest)) (c.in_ok-files.ensures.made honest honest_files);
 })

@@ -1,12 +1,12 @@
-use Rattle.std.proofs.Common.{Result, Ok, Err, OnErr, Option}
-use Rattle.world_folder.proofs.NewWorldFilesLemmas.{all_kept_then}
+use Rattle.world_folder.proofs.NewWorldFilesLemmas.{completed_then, none_made, there_same}
 use Rattle.world_folder.proofs.new_world_files.complete.Goals as goal
 
-on_error : {T E P Q : Type 0} (result : Result T E) → (P → Q) → OnErr result P → OnErr result Q
-on_error (Ok value) f is = tt
-on_error (Err error) f is = f is
+pub returns-in_err-look_for_world-clause-completed : goal.returns-in_err-look_for_world-clause-completed
+returns-in_err-look_for_world-clause-completed g c = λ honest honest_files.
+    let read = c.look_for_world.new.present in
+    completed_then g.F.File.Disk c.args.files.now read read _ _ (c.in_err-look_for_world.ensures.kept honest_files) (there_same g.F.File.Disk read) (none_made read _)
 
-pub returns-clause-kept : goal.returns-clause-kept
-returns-clause-kept g c = λ honest honest_files.
-    on_error c.make_absent.result (all_kept_then g.F.File.Disk c.args.files.now c.look_for_world.new.present c.make_absent.new.files (c.in_ok-look_for_world.ensures.kept honest_files))
-    (c.make_absent.ensures.kept honest honest_files)
+pub returns-clause-completed : goal.returns-clause-completed
+returns-clause-completed g c = λ honest honest_files.
+    completed_then g.F.File.Disk c.args.files.now c.look_for_world.new.present c.make_absent.new.files _ _ (c.in_ok-look_for_world.ensures.kept honest_files)
+    (c.make_absent.ensures.kept honest honest_files) (c.make_absent.ensures.made honest)
