@@ -1,11 +1,12 @@
 -- The report on the status of a world.
-use Rattle.std.specs.Prelude.{◌≡◌, List, ◌∷◌, Option, Some, None}
+use Rattle.std.specs.Prelude.{◌≡◌, ℕ, Bool, true, false, List, ◌∷◌, Option, Some, None}
 use Rattle.world_folder.specs.Ending.{ending_of}
 use Rattle.world_folder.specs.History.{Act, Printed}
 use Rattle.world_folder.specs.declared.ending.Ending.{Ending}
 use Rattle.world_folder.specs.declared.guard.Guard.{Guard}
 use Rattle.world_folder.specs.declared.lost.Checks.{Checks}
 use Rattle.world_reports.specs.Figures.{AreFigures}
+use Rattle.world_reports.specs.Health.{ending_with, health_of, health_text}
 use Rattle.world_reports.specs.Copy.{IsWorldSeen}
 use Rattle.world_reports.specs.Reports.{NamesFailed, with_finding}
 use Rattle.world_reports.specs.ServerReport.{IsServerReport}
@@ -46,3 +47,15 @@ pub record IsStatusReported (checks : Checks) (ending : Ending) (server : Server
   pub acts : List Act
   pub figures : AreFiguresReported checks ending before acts
   pub server_reported : IsServerReported server acts after
+
+-- The status of a world was reported. If that was asked for, it was printed then whether the world
+-- is well, by its server and the age of its guard, and the command ends by that.
+abbrev pub IsHealthReported : (checks_health : Bool) → Checks → Ending
+    → (before after : List Act) → Type 0
+IsHealthReported false checks ending before after =
+    (server : ServerReport) × IsStatusReported checks ending server before after
+IsHealthReported true checks ending before after =
+    (server : ServerReport) × (done : Ending) × (acts : List Act) × (age : Option ℕ)
+    × IsStatusReported checks done server before acts
+    × (after ≡ Printed (health_text (health_of server age)) ∷ acts)
+    × (ending ≡ ending_with (health_of server age) done)

@@ -1,7 +1,9 @@
 //! Figures of a world, by what its files hold.
 ghost use Rattle.std.specs.Prelude.{◌≡◌, IsTrue, IfOk, IfErr, Some, OnOk, false};
 ghost use Rattle.world_folder.specs.Ending.{IsChecked, IsDone, IsFault};
+ghost use Rattle.world_reports.specs.Reports.{IsGuardRead};
 ghost use Rattle.world_reports.specs.StatusReport.{IsStatusReported, IsServerReported};
+ghost use Rattle.world_reports.specs.StatusReport.{IsHealthReported};
 ghost use Rattle.world_reports.specs.StatusReport.{AreFiguresReported, with_guard};
 ghost use Rattle.world_reports.specs.Figures.{AreFigures, IsOpened, current_segment};
 ghost use Rattle.world_reports.specs.Texts.{figures_text, lengths_text, pair_text, segment_text};
@@ -70,6 +72,9 @@ pub fn status<F: Source>(
     on_loss: OnLoss,
     checks_health: bool,
 ) -> Result<Ending, Ending>
+    ensures reported { IsTrue F.honest → IsTrue F.File.honest → IfOk result (λ ending.
+        IsGuardRead on_loss (λ checks. IsHealthReported checks_health checks ending)
+        (F.history folder.old) (F.history folder.new)) }
     ensures done { checks_health ≡ false → IfOk result IsDone }
     ensures checked { IfOk result IsChecked }
     ensures fault { IfErr result IsFault }
