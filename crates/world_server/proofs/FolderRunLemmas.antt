@@ -2,9 +2,10 @@
 use Rattle.std.proofs.Common.{◌≡◌, ◌≢◌, ◌≤◌, ◌∙◌, ℕ, Bool, false, IsTrue, Option, None, Result, Ok, Err, sym, subst}
 use Rattle.std.specs.Prelude.{IfOk, IfErr, IfSome, MatchResult}
 use Rattle.disk_model.specs.declared.disk.Disk.{Ghosts}
-use Rattle.disk_model.specs.FourFiles.{EachFile, KeepsFile}
+use Rattle.disk_model.specs.FourFiles.{EachFile, KeepsFile, StaysFilled}
 use Rattle.disk_model.specs.declared.four_files.FourFiles.{FourFiles}
-use Rattle.world_server.specs.Served.{GoesOnSound, LeavesWorld, EndsBy}
+use Rattle.worker_threads.specs.Opening.{files_of}
+use Rattle.world_server.specs.Served.{GoesOnSound, LeavesWorld, EndsBy, given_files}
 use Rattle.world_server.specs.Serving.{StopsWith, StopsAndPrints}
 use Rattle.client_service.specs.declared.accept.Closed.TheVariants.{AllCame}
 use Rattle.world_folder.specs.Lost.{lost_in}
@@ -20,7 +21,6 @@ use Rattle.world_server.specs.declared.served.Served.{Served}
 use Rattle.world_server.specs.declared.served.WorldFailure.{WorldFailure}
 use Rattle.world_server.specs.declared.served.WorldFailure.TheVariants as failure
 use Rattle.world_server.specs.declared.serving.Left.{Left}
-use Rattle.world_server.specs.declared.serving.Left.TheVariants as left
 
 read_on : {D : Type 0} (disk : Ghosts D) {old mid new : D} → KeepsFile disk old mid → KeepsFile disk mid new → KeepsFile disk old new
 read_on disk a b = record { same_content = b.same_content ∙ a.same_content; crash = λ bytes h. a.crash bytes (b.crash bytes h) }
@@ -55,18 +55,20 @@ module _ {M D : Type 0} (disk : Ghosts D) where
   stops_served (Ok served) stopped ending stops other = (stopped, stops, other)
   stops_served (Err failed) stopped ending stops other = tt
 
-  pub settings_followed : (r : Result (Served M D disk) (WorldFailure D)) (service : Service) (every clients : ℕ)
-      → every ≡ due_after service.every → clients ≡ service.clients.0
+  pub settings_followed : (r : Result (Served M D disk) (WorldFailure D)) (service : Service) (every clients : ℕ) (idle : Option ℕ)
+      → every ≡ due_after service.every → clients ≡ service.clients.0 → idle ≡ service.idle
       → IfOk r (λ s. s.stopped.workers.mutator.every ≡ every) → IfOk r (λ s. s.stopped.accepted.closed ≡ AllCame → s.stopped.accepted.connections ≡ clients)
-      → IfOk r (λ s. FollowsService service s.stopped.workers.mutator s.stopped.accepted)
-  settings_followed (Ok served) service every clients due taken e c = record { every = e ∙ due; clients = λ all. c all ∙ taken }
-  settings_followed (Err failed) service every clients due taken e c = tt
+      → IfOk r (λ s. s.stopped.accepted.sessions.idle ≡ idle) → IfOk r (λ s. FollowsService service s.stopped.workers.mutator s.stopped.accepted)
+  settings_followed (Ok served) service every clients idle due taken silent e c i = record { every = e ∙ due; clients = λ all. c all ∙ taken; idle = i ∙ silent }
+  settings_followed (Err failed) service every clients idle due taken silent e c i = tt
 
   pub leaves_files : IsTrue disk.honest → (files : FourFiles D) (r : Result (Served M D disk) (WorldFailure D)) (last : Left M D disk) → IsLeftBy disk r last
       → IfOk r (λ s. GoesOnSound disk files s.recovered.tick s.stopped.workers.mutator s.stopped.workers.checkpointer s.stopped.workers.log_writer)
-      → IfErr r (LeavesWorld disk files) → LeavesFiles disk files last
-  leaves_files honest files (Ok served) last is sound leaves = subst (LeavesFiles disk files) (sym is) sound
-  leaves_files honest files (Err (failure.NotRecovered given why)) last is sound leaves =
+      → IfErr r (LeavesWorld disk files)
+      → MatchResult r (λ s. EachFile files (files_of s.stopped.workers.checkpointer.images s.stopped.workers.log_writer.log) (StaysFilled disk))
+      (λ f. IfSome (given_files f) (λ given. EachFile files given (StaysFilled disk))) → LeavesFiles disk files last
+  leaves_files honest files (Ok served) last is sound leaves filled = subst (LeavesFiles disk files) (sym is) (sound, filled)
+  leaves_files honest files (Err (failure.NotRecovered given why)) last is sound leaves filled =
       let again = is.2 honest in
       subst (LeavesFiles disk files) (sym is.1) (record {
         image_a = read_on disk leaves.image_a again.image_a;
@@ -74,6 +76,6 @@ module _ {M D : Type 0} (disk : Ghosts D) where
         log_a = read_on disk leaves.log_a again.log_a;
         log_b = read_on disk leaves.log_b again.log_b;
       })
-  leaves_files honest files (Err (failure.NotStarted world given refusal)) last is sound leaves = subst (LeavesFiles disk files) (sym is) leaves
-  leaves_files honest files (Err (failure.NotOpened world given ending)) last is sound leaves = subst (LeavesFiles disk files) (sym is) leaves
-  leaves_files honest files (Err (failure.NotRun world ending)) last is sound leaves = subst (LeavesFiles disk files) (sym is) tt
+  leaves_files honest files (Err (failure.NotStarted world given refusal)) last is sound leaves filled = subst (LeavesFiles disk files) (sym is) (leaves, filled)
+  leaves_files honest files (Err (failure.NotOpened world given ending)) last is sound leaves filled = subst (LeavesFiles disk files) (sym is) (leaves, filled)
+  leaves_files honest files (Err (failure.NotRun world ending)) last is sound leaves filled = subst (LeavesFiles disk files) (sym is) tt

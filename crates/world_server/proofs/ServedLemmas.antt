@@ -1,10 +1,12 @@
 -- The files of a world that is served, from its opening to the stop of its workers.
-use Rattle.std.proofs.Common.{◌≡◌, ◌≤◌, ℕ, Bool, List, [], ◌∷◌, ◌++◌, length, take, max, Result, Ok, Err, sym, ap, subst, ◌∙◌, arith}
+use Rattle.std.proofs.Common.{◌≡◌, ◌≤◌, ℕ, List, [], ◌∷◌, ◌++◌, length, take, max, Result, Ok, Err, sym, ap, subst, ◌∙◌, arith}
 use Rattle.std.proofs.lemmas.List.{append_assoc}
-use Rattle.std.specs.Prelude.{IfOk, IfErr, MatchResult}
+use Rattle.std.specs.Prelude.{IfOk, IfErr, IfSome, MatchResult}
 use Rattle.world_actions.specs.declared.action.Action.{Action}
 use Rattle.disk_model.specs.declared.disk.Disk.{Ghosts}
 use Rattle.disk_model.specs.declared.four_files.FourFiles.{FourFiles}
+use Rattle.disk_model.specs.FourFiles.{EachFile, StaysFilled}
+use Rattle.disk_model.proofs.FilledLemmas.{each_filled}
 use Rattle.recovery.specs.Events.{ticks_in}
 use Rattle.engine.specs.World.{World}
 use Rattle.engine.specs.Follows.{AreSound, Follows}
@@ -23,7 +25,7 @@ use Rattle.world_folder.specs.declared.lost.Checks.{Checks}
 use Rattle.world_server.specs.declared.line.Line.{Line}
 use Rattle.world_server.specs.declared.served.WorldFailure.{WorldFailure}
 use Rattle.world_server.specs.declared.served.WorldFailure.TheVariants as failure
-use Rattle.world_server.specs.Served.{recovered_line, stopped_line, failure_lines, KeepsWorld, StandsOpened, GoesOnSound, LeavesWorld, FailsFor, GivesBack}
+use Rattle.world_server.specs.Served.{recovered_line, stopped_line, failure_lines, KeepsWorld, StandsOpened, GoesOnSound, LeavesWorld, FailsFor, GivesBack, given_files}
 
 -- ---- the opening
 
@@ -102,6 +104,15 @@ module _ {D S : Type 0} (disk : Ghosts D) where
       subst (λ (t : WorldReport). GoesOnSound disk files t.tick (m s) (c s) (w s)) (sym same)
       (goes_on disk files world.tick opened (m s) (c s) (w s) stands keeps is stays more)
   served_sound files world opened (Err f) reported m c w stands keeps is same stays more = tt
+
+  pub served_filled : (files given : FourFiles D) (world : WorldReport) (r : Result S (WorldFailure D)) (left : S → FourFiles D) → EachFile files given (StaysFilled disk)
+      → IfOk r (λ s. EachFile given (left s) (StaysFilled disk)) → IfErr r (GivesBack world given)
+      → MatchResult r (λ s. EachFile files (left s) (StaysFilled disk)) (λ f. IfSome (given_files f) (λ back. EachFile files back (StaysFilled disk)))
+  served_filled files given world (Ok s) left opened stays g = each_filled disk files given (left s) opened stays
+  served_filled files given world (Err (failure.NotRecovered back why)) left opened stays g = absurd g
+  served_filled files given world (Err (failure.NotStarted recovered back refusal)) left opened stays g = absurd g
+  served_filled files given world (Err (failure.NotOpened recovered back ending)) left opened stays g = subst (λ b. EachFile files b (StaysFilled disk)) (sym g.1) opened
+  served_filled files given world (Err (failure.NotRun recovered ending)) left opened stays g = tt
 
   pub given_back : (files given : FourFiles D) (world : WorldReport) (r : Result S (WorldFailure D)) → KeepsWorld disk files world.tick given
       → IfErr r (GivesBack world given) → IfErr r (LeavesWorld disk files)

@@ -1,5 +1,5 @@
 -- A world that a server serves, from its four files as they were to the files as they are left.
-use Rattle.std.specs.Prelude.{◌≡◌, ◌≢◌, ◌≤◌, ◌⊎◌, Bool, ℕ, List, [], ◌∷◌, ◌++◌, length, take, max}
+use Rattle.std.specs.Prelude.{◌≡◌, ◌≢◌, ◌≤◌, ◌⊎◌, ℕ, List, [], ◌∷◌, ◌++◌, length, take, max}
 use Rattle.std.specs.Prelude.{Option, None, Some}
 use Rattle.std.specs.Option.{option_map_or}
 use Rattle.world_actions.specs.declared.action.Action.{Action}
@@ -144,6 +144,13 @@ FailsFor disk checks files (failure.NotStarted world left refusal) =
     (refusal ≡ NoMemory) ⊎ (refusal ≡ Device)
 FailsFor disk checks files (failure.NotOpened world left ending) = Unit {0}
 FailsFor disk checks files (failure.NotRun world ending) = ending ≢ Fault NoMemory
+
+-- the files of a world that isn't served, if no worker may have them
+abbrev pub given_files : {D : Type 0} → WorldFailure D → Option (FourFiles D)
+given_files (failure.NotRecovered left why) = Some left
+given_files (failure.NotStarted world left refusal) = Some left
+given_files (failure.NotOpened world left ending) = Some left
+given_files (failure.NotRun world ending) = None
 
 -- an open world that isn't served has its files again, unless a worker ran or would have had them
 abbrev pub GivesBack : {D : Type 0} → WorldReport → FourFiles D → WorldFailure D → Type 0

@@ -3,6 +3,7 @@ ghost use Rattle.std.specs.Prelude.{◌≡◌, ◌≢◌, ◌++◌, ◌∷◌, [
 ghost use Rattle.world_folder.specs.Ending.{IsFault};
 ghost use Rattle.world_server.specs.Serving.{EndsServing};
 ghost use Rattle.world_server.specs.declared.line.Line.{Line as Printed};
+ghost use Rattle.world_server.specs.declared.service.Service.{Service as Asked};
 
 use crate::line::Line;
 use crate::standing::Losses;
@@ -54,6 +55,9 @@ pub trait Frontend<M: Method, D: Disk + Drop, W> {
 /// Becomes the frontend of a server, once it holds the files of its world.
 pub trait IntoFrontend<M: Method, D: Disk + Drop, W> {
     type Frontend: Frontend<M, D, W>;
+
+    /// It holds if these streams were made for this service, and print figures as it asks for.
+    ghost serves: { Self → Asked → Type 0 };
 
     /// The image files are paced by the ticks of the world, the log files are behind the valve, and
     /// the world has this guard.

@@ -1,5 +1,5 @@
 //! The figures of a running server, printed again and again.
-ghost use Rattle.std.specs.Prelude.{◌≡◌, ◌≤◌, ◌<◌, ◌-◌, ◌*◌, ◌/◌, Some};
+ghost use Rattle.std.specs.Prelude.{◌≡◌, ◌≤◌, ◌<◌, ◌-◌, ◌*◌, ◌/◌, Some, IfOk};
 ghost use Rattle.world_server.specs.Lines.{left_text, report_text};
 ghost use Rattle.world_server.specs.Room.{room_after, seconds_left};
 
@@ -68,16 +68,30 @@ impl fmt::Display for RoomReport {
     }
 }
 
-/// Starts a thread that waits for the counts of a server on the returned channel, and then prints
-/// its figures each time so many seconds have passed. It runs on up to the program's end, or ends
-/// if no counts can come.
+/// The thread that prints the figures of a server each time so many seconds have passed.
+#[derive(Drop)]
+pub struct Reports {
+    to: Sender<Arc<Pulse, Global>>,
+    seconds: u32,
+}
+
+impl Reports {
+    /// Lets it begin, with these counts.
+    pub fn begin<R: Wait>(&self, rt: &R, pulse: Arc<Pulse, Global>) {
+        let _ = self.to.try_send(rt, pulse);
+    }
+}
+
+/// Starts the thread of the figures, which waits for the counts of a server. It runs on up to the
+/// program's end, or ends if no counts can come.
 pub fn start_reporter<R: Threads + Wait + Clock + Copy + Send + 'static>(
     rt: &R,
     alloc: Global,
     seconds: u32,
     errors: Printer,
-) -> Result<Sender<Arc<Pulse, Global>>, NotStarted>
+) -> Result<Reports, NotStarted>
     requires { 0 < seconds }
+    ensures { IfOk result (λ reports. reports.seconds ≡ seconds) }
 {
     let (to, begins) = bounded::<Arc<Pulse, Global>, _>(alloc, 1)?;
     let here = *rt;
@@ -87,7 +101,7 @@ pub fn start_reporter<R: Threads + Wait + Clock + Copy + Send + 'static>(
         }
     };
     match thread::spawn(rt, run) {
-        Ok(_) => Ok(to),
+        Ok(_) => Ok(Reports { to, seconds }),
         Err(_) => Err(NotStarted::NoThread),
     }
 }

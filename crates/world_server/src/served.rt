@@ -1,6 +1,7 @@
 //! A world that a server serves, from its four files as they were to the files as they are left.
 ghost use Rattle.std.specs.Prelude.{◌≡◌, ◌≤◌, ◌++◌, ◌∷◌, [], Option, None, IsTrue, IfOk};
 ghost use Rattle.std.specs.Prelude.{IfErr, IfSome, MatchResult};
+ghost use Rattle.disk_model.specs.FourFiles.{EachFile, StaysFilled};
 ghost use Rattle.workers.specs.AskOrder.{PlaysInTurn};
 ghost use Rattle.worker_steps.specs.Begun.{IsWhole};
 ghost use Rattle.worker_steps.specs.Stopped.{StaysSound};
@@ -14,6 +15,7 @@ ghost use Rattle.world_server.specs.Served.{recovered_line, finding_lines, stopp
 ghost use Rattle.world_server.specs.Served.{failure_lines, failure_by};
 ghost use Rattle.world_server.specs.Served.{RecoversTo, KeepsWorld, StandsOpened, GoesOnSound};
 ghost use Rattle.world_server.specs.Served.{LeavesWorld, FailsFor, GivesBack, EndsAsFailed};
+ghost use Rattle.world_server.specs.Served.{given_files};
 
 use crate::frontend::Frontend;
 use crate::line::Line;
@@ -60,8 +62,8 @@ pub enum WorldFailure<D: Disk + Drop> {
 /// and prints which world it is. It runs its start, lets the clients in, and stops the workers
 /// after the last client. It then prints how far play came. On disks that keep to the disk model
 /// the files are sound throughout. A refusal leaves them with the same world. A server leaves them
-/// with all that was acknowledged. Each session's batches are taken in its order, none left out,
-/// and played at most once.
+/// with all that was acknowledged. No crash empties a file that had a byte. Each session's batches
+/// are taken in its order, none left out, and played at most once.
 pub fn serve_world<
     R: Threads + Wait + Clock + Copy + Send + 'static,
     M: Method + Send + 'static,
@@ -91,6 +93,11 @@ pub fn serve_world<
         served.stopped.workers.mutator.to.items) }
     ensures left { IsTrue D.honest → IfErr result (LeavesWorld D.Disk files) }
     ensures reason { IfErr result (FailsFor D.Disk checks files) }
+    ensures filled { IsTrue D.honest → MatchResult result
+        (λ served. EachFile files (files_of served.stopped.workers.checkpointer.images
+        served.stopped.workers.log_writer.log) (StaysFilled D.Disk))
+        (λ failure. IfSome (given_files failure) (λ left.
+        EachFile files left (StaysFilled D.Disk))) }
     ensures printed { IsTrue F.known → MatchResult result
         (λ served. F.printed front.new ≡ F.printed front.old ++ recovered_line served.recovered
         ∷ stopped_line served.stopped.workers.mutator served.stopped.workers.checkpointer
@@ -103,6 +110,8 @@ pub fn serve_world<
     ensures ends { IfErr result EndsAsFailed }
     ensures all { IfOk result (λ served. served.stopped.accepted.closed ≡ Closed.AllCame
         → served.stopped.accepted.connections ≡ admission.clients) }
+    ensures idle { IfOk result (λ served.
+        served.stopped.accepted.sessions.idle ≡ admission.idle) }
     ensures every { IfOk result (λ served. served.stopped.workers.mutator.every ≡ every.0) }
 {
     let (recovered, opened) = open_files::<M, D, W, F>(alloc, front, files, checks)?;
@@ -129,6 +138,10 @@ fn open_files<M: Method, D: Disk + Drop, W, F: Frontend<M, D, W>>(
         made.1.front.live made.1.images made.1.log) }
     ensures keeps { IsTrue D.honest → IfOk result (λ made.
         KeepsWorld D.Disk files made.0.tick (files_of made.1.images made.1.log)) }
+    ensures filled { IsTrue D.honest → MatchResult result
+        (λ made. EachFile files (files_of made.1.images made.1.log) (StaysFilled D.Disk))
+        (λ failure. IfSome (given_files failure) (λ left.
+        EachFile files left (StaysFilled D.Disk))) }
     ensures left { IsTrue D.honest → IfErr result (LeavesWorld D.Disk files) }
     ensures reason { IfErr result (FailsFor D.Disk checks files) }
     ensures printed { IsTrue F.known → MatchResult result
@@ -200,6 +213,10 @@ fn serve_opened<
     ensures sound { IsTrue D.honest → IfOk result (λ served.
         StaysSound D.Disk opened served.stopped.workers.mutator
         served.stopped.workers.checkpointer served.stopped.workers.log_writer) }
+    ensures filled { IsTrue D.honest → IfOk result (λ served.
+        EachFile (files_of opened.images opened.log)
+        (files_of served.stopped.workers.checkpointer.images
+        served.stopped.workers.log_writer.log) (StaysFilled D.Disk)) }
     ensures in_turn { IfOk result (λ served.
         PlaysInTurn served.stopped.workers.mutator.asks.taken
         served.stopped.workers.mutator.to.items) }
@@ -214,6 +231,8 @@ fn serve_opened<
     ensures ends { IfErr result EndsAsFailed }
     ensures all { IfOk result (λ served. served.stopped.accepted.closed ≡ Closed.AllCame
         → served.stopped.accepted.connections ≡ admission.clients) }
+    ensures idle { IfOk result (λ served.
+        served.stopped.accepted.sessions.idle ≡ admission.idle) }
     ensures every { IfOk result (λ served. served.stopped.workers.mutator.every ≡ every.0) }
 {
     let gates = Gates {

@@ -108,7 +108,8 @@ pub fn serve_folder<
     F: Folder<File = D>,
     S: IntoFrontend<M, D, W> + Drop,
 >(rt: &R, folder: &mut F, streams: S, service: &Service<'_>) -> Result<FolderRun<M, D>, Ending>
-    requires { service.now.method ≡ M.KIND }
+    requires method { service.now.method ≡ M.KIND }
+    requires streams { S.serves streams service.now }
     ensures held { IsTrue F.honest → IfOk result (λ run.
         HoldsFiles F.identity service.now run (F.history folder.old) (F.history folder.new)) }
     ensures left { IsTrue D.honest → IfOk result (λ run.

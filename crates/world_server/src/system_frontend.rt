@@ -1,6 +1,7 @@
 //! The front of a server on the system: its standard streams, and its port or its socket.
 ghost use Rattle.std.specs.Prelude.{◌≡◌, ◌≢◌, IfErr, IfOk, IfSome};
 ghost use Rattle.world_folder.specs.Ending.{IsFault};
+ghost use Rattle.world_server.specs.FolderRun.{seconds_of};
 ghost use Rattle.world_server.specs.Serving.{EndsServing};
 
 use crate::acked::AckedOut;
@@ -11,7 +12,7 @@ use crate::heartbeat::Heartbeat;
 use crate::kept::kept_files;
 use crate::line::Line;
 use crate::lines::Lines;
-use crate::reporter::start_reporter;
+use crate::reporter::{Reports, start_reporter};
 use crate::room::Room;
 use crate::runtime::{LookUp, Runtime, ThreadRuntime};
 use crate::service::{Address, Service};
@@ -49,8 +50,8 @@ pub struct SystemFrontend<'a, R: Wait + Clock + Net + Files + Copy> {
     /// client is let in.
     streams: Option<Streams>,
     standing: Arc<Standing, Global>,
-    /// Takes the counts of the server, if its figures are printed.
-    reports: Option<Sender<Arc<Pulse, Global>>>,
+    /// Prints the figures of the server, if they are asked for.
+    reports: Option<Reports>,
     /// Takes the server for the thread that looks at it.
     watchdog: Option<Sender<Watched>>,
     /// The guard of the world as it was before.
@@ -71,14 +72,17 @@ pub struct SystemStreams<'a, R: Wait + Clock + Net + Files + Copy> {
     service: Service<'a>,
     streams: Option<Streams>,
     standing: Arc<Standing, Global>,
-    reports: Option<Sender<Arc<Pulse, Global>>>,
+    reports: Option<Reports>,
     watchdog: Option<Sender<Watched>>,
 }
 
 impl<'a, R: Runtime + ThreadRuntime + Copy + Send + 'static> SystemStreams<'a, R> {
     /// Starts the threads of the streams.
     pub fn start(rt: &R, service: &Service<'a>) -> Result<Self, Ending>
-        ensures { IfErr result IsFault }
+        ensures service { IfOk result (λ made. made.service ≡ service.now) }
+        ensures reports { IfOk result (λ made. IfSome made.streams
+            (λ _. seconds_of made.reports ≡ service.now.report)) }
+        ensures fault { IfErr result IsFault }
     {
         let Ok(standing) = Arc::new(rt.alloc(), Standing::new()) else {
             return Err(Ending::Fault(Refusal::NoMemory));
@@ -105,6 +109,9 @@ impl<'a, R: Runtime + ThreadRuntime + Copy + Send + 'static, M: Method> IntoFron
     Lines<R>,
 > for SystemStreams<'a, R> {
     type Frontend = SystemFrontend<'a, R>;
+
+    ghost serves = { λ made service. (made.service ≡ service)
+        × IfSome made.streams (λ _. seconds_of made.reports ≡ service.report) };
 
     fn into_frontend(self, guard: Option<Guard>, pace: Pace, valve: Valve) -> Self::Frontend {
         let SystemStreams {
@@ -363,19 +370,21 @@ fn pulse_for<R: Wait + Clock + Net + Files + AllocGlobal + Copy, M: Method>(
     }
     let pulse = Arc::new(front.rt.alloc(), pulse_of(world)).map_err(|_: _| AllocError)?;
     if let Some(reports) = &front.reports {
-        let _ = reports.try_send(&front.rt, pulse.clone()?);
+        reports.begin(&front.rt, pulse.clone()?);
     }
     Ok(Some(pulse))
 }
 
-type Started = (Streams, Option<Sender<Arc<Pulse, Global>>>, Sender<Watched>);
+type Started = (Streams, Option<Reports>, Sender<Watched>);
 
 // Starts the threads of the streams, the one that prints figures if they are asked for, and the one
 // that looks at the server.
 fn start_threads<R: Runtime + ThreadRuntime + Copy + Send + 'static>(
     rt: &R,
     service: &Service<'_>,
-) -> Result<Started, NotStarted> {
+) -> Result<Started, NotStarted>
+    ensures { IfOk result (λ started. seconds_of started.1 ≡ service.now.report) }
+{
     let streams = Streams::start(rt, service)?;
     let reports = match service.report {
         0 => None,

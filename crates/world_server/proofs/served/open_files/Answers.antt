@@ -1,4 +1,5 @@
 use Rattle.std.proofs.Common.{sym, subst}
+use Rattle.disk_model.proofs.FilledLemmas.{each_filled, read_filled}
 use Rattle.worker_threads.specs.Opening.{files_of}
 use Rattle.world_server.specs.Served.{KeepsWorld, StandsOpened}
 use Rattle.world_server.proofs.ServedLemmas.{stands_opened, keeps_world}
@@ -29,3 +30,15 @@ returns-in-Err-start_world-clause-left g c = λ honest.
     let read = c.in-Ok.ensures.read honest in
     subst (λ tick. KeepsWorld D c.args.files tick c.in-Err-start_world.files) (sym c.ended.ensures)
     (keeps_world D c.args.files begun.engine begun.from c.in-Err-start_world.files read (c.in-Err-start_world.ensures.sound honest read.newest))
+
+pub returns-in-Ok-start_world-clause-filled : goal.returns-in-Ok-start_world-clause-filled
+returns-in-Ok-start_world-clause-filled g c = λ honest.
+    each_filled g.D.Disk c.args.files c.in-Ok.found.begun.engine.files _ (read_filled g.D.Disk c.args.files _ (c.in-Ok.ensures.kept honest)) (c.in-Ok-start_world.ensures.filled honest)
+
+pub returns-in-Err-start_world-clause-filled : goal.returns-in-Err-start_world-clause-filled
+returns-in-Err-start_world-clause-filled g c = λ honest.
+    each_filled g.D.Disk c.args.files c.in-Ok.found.begun.engine.files c.in-Err-start_world.files
+    (read_filled g.D.Disk c.args.files _ (c.in-Ok.ensures.kept honest)) (c.in-Err-start_world.ensures.filled honest)
+
+pub returns-in-Err-clause-filled : goal.returns-in-Err-clause-filled
+returns-in-Err-clause-filled g c = λ honest. read_filled g.D.Disk c.args.files c.in-Err.files (c.in-Err.ensures.kept honest)

@@ -1,4 +1,5 @@
-use Rattle.world_server.proofs.ServedLemmas.{served_sound, given_back, given_reason, printed_on}
+use Rattle.worker_threads.specs.Opening.{files_of}
+use Rattle.world_server.proofs.ServedLemmas.{served_sound, served_filled, given_back, given_reason, printed_on}
 use Rattle.world_server.proofs.served.serve_world.Goals as goal
 
 pub returns-clause-sound : goal.returns-clause-sound
@@ -21,3 +22,8 @@ returns-clause-printed g c = λ known.
 
 pub returns-clause-reason : goal.returns-clause-reason
 returns-clause-reason g c = given_reason g.D.Disk c.args.checks c.args.files _ c.in_ok-recovered.recovered c.serve_opened.result c.serve_opened.ensures.left
+
+pub returns-clause-filled : goal.returns-clause-filled
+returns-clause-filled g c = λ honest.
+    served_filled g.D.Disk c.args.files _ c.in_ok-recovered.recovered c.serve_opened.result (λ s. files_of s.stopped.workers.checkpointer.images s.stopped.workers.log_writer.log)
+    (c.in_ok-recovered.ensures.filled honest) (c.serve_opened.ensures.filled honest) c.serve_opened.ensures.left

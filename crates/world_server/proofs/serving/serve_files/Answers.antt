@@ -11,7 +11,7 @@ pub returns-clause-left : goal.returns-clause-left
 returns-clause-left g c = λ honest.
     subst (λ files. LeavesFiles g.D.Disk files c.ended-left.result.0) c.hold_back.ensures.same
     (leaves_files g.D.Disk honest c.hold_back.new.files c.serve_world-served.result _ c.ended-left.ensures.left (c.serve_world-served.ensures.sound honest)
-    (c.serve_world-served.ensures.left honest))
+    (c.serve_world-served.ensures.left honest) (c.serve_world-served.ensures.filled honest))
 
 pub returns-clause-recovered : goal.returns-clause-recovered
 returns-clause-recovered g c = λ honest.
@@ -29,7 +29,8 @@ pub returns-clause-settings : goal.returns-clause-settings
 returns-clause-settings g c =
     if_served g.D.Disk c.serve_world-served.result _ c.ended-left.ensures.left _
     (settings_followed g.D.Disk c.serve_world-served.result c.args.service.now c.due_after-every.result.0 c.admission-admission.result.clients
-    c.due_after-every.ensures c.admission-admission.ensures.clients c.serve_world-served.ensures.every c.serve_world-served.ensures.all)
+    c.admission-admission.result.idle c.due_after-every.ensures c.admission-admission.ensures.clients c.admission-admission.ensures.idle
+    c.serve_world-served.ensures.every c.serve_world-served.ensures.all c.serve_world-served.ensures.idle)
 
 pub returns-clause-whole : goal.returns-clause-whole
 returns-clause-whole g c = λ honest asked.
