@@ -123,6 +123,9 @@ impl<D: Disk> Disk for Counted<D> {
 
     ghost are_bytes = { λ disk left is_honest. D.are_bytes disk.inner left is_honest };
 
+    ghost keeps_byte = { λ old new call succeeded is_honest is.
+        D.keeps_byte old.inner new.inner call succeeded is_honest is.0 };
+
     ghost few_faults = { λ disk. D.few_faults disk.inner };
 
     fn len(&mut self) -> Result<u64, Refusal> {

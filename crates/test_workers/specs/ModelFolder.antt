@@ -8,7 +8,7 @@ use Rattle.test_workers.specs.declared.note.Note.TheVariants as note
 
 abbrev pub act_of : Note → Act
 act_of (note.Looked file there) = Looked file there
-act_of (note.Opened file entry) = Opened file entry
+act_of (note.Opened file entry bytes) = Opened file entry bytes.items
 act_of (note.Made file entry) = Made file entry
 act_of (note.Locked entry) = Locked entry
 act_of (note.Read file bytes) = Read file bytes.items

@@ -4,7 +4,7 @@ ghost use Rattle.std.specs.Prelude.{◌≡◌, ◌∷◌, true, None, Option, Is
 ghost use Rattle.std.specs.Prelude.{min};
 ghost use Rattle.std.specs.IoError.{error_kind};
 ghost use Rattle.disk_model.specs.Disk.{Only, last_count, min-last_count};
-ghost use Rattle.disk_model.specs.CrashOutcome.{IsCrashOutcome, content_stays};
+ghost use Rattle.disk_model.specs.CrashOutcome.{IsCrashOutcome, content_stays, calls_keep_byte};
 ghost use Rattle.disk_model.specs.FileState.{Calls};
 ghost use Rattle.test_workers.specs.ModelFolder.{act_of, acts_of};
 
@@ -52,6 +52,8 @@ impl Disk for ModelDisk {
     ghost stays = { λ disk _. content_stays disk.file };
 
     ghost are_bytes = { λ disk left _ outcome. outcome.are_bytes };
+
+    ghost keeps_byte = { λ old new call ok _. calls_keep_byte old.file new.file call ok };
 
     ghost few_faults = { λ disk. min-last_count disk.file.faults };
 
@@ -269,7 +271,8 @@ impl Folder for ModelFolder<'_> {
     fn open(&mut self, file: WorldFile) -> io::Result<ModelHandle> {
         let bytes = self.copy_of(file)?;
         let entry = entry_of(file);
-        self.note(Note::Opened(file, entry))?;
+        let opened = Vec::from_slice(self.alloc, &bytes)?;
+        self.note(Note::Opened(file, entry, opened))?;
         Ok(ModelHandle { entry, bytes })
     }
 

@@ -7,8 +7,8 @@ use world_folder::{Entry, Guard, LockState};
 pub enum Note {
     /// This is what stands under a name, if anything does.
     Looked(WorldFile, Option<Entry>),
-    /// The file to which a name leads was opened to be written.
-    Opened(WorldFile, Entry),
+    /// The file to which a name leads was opened to be written, and has these bytes.
+    Opened(WorldFile, Entry, Vec<u8>),
     /// A new file was made under a name.
     Made(WorldFile, Entry),
     /// A file was locked.

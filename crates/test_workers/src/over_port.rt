@@ -105,6 +105,8 @@ impl<R: Wait + Abort + Copy, M: Method, D: Disk + Drop> Frontend<M, D, Reporter<
 impl<R: Wait + Abort + Copy, M: Method> IntoFrontend<M, ModelDisk, Reporter<R>> for Desk<R> {
     type Frontend = Desk<R>;
 
+    ghost serves = { λ _ _. Unit {0} };
+
     fn into_frontend(self, _guard: Option<Guard>, _pace: Pace, _valve: Valve) -> Desk<R> {
         self
     }

@@ -99,6 +99,8 @@ impl Disk for Recorded {
 
     ghost are_bytes = { λ disk left is_honest outcome. absurd (false≢true is_honest) };
 
+    ghost keeps_byte = { λ old new call succeeded is_honest. absurd (false≢true is_honest) };
+
     ghost few_faults = { λ disk. min-last_count disk.file.faults };
 
     fn len(&mut self) -> Result<u64, Refusal> {

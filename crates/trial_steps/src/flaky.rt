@@ -1,7 +1,8 @@
-ghost use Rattle.std.specs.Prelude.{◌≡◌, ◌+◌, min, true, ⊤};
-ghost use Rattle.disk_model.specs.Disk.{last_count, min-last_count};
-ghost use Rattle.disk_model.specs.CrashOutcome.{IsCrashOutcome, content_stays};
-ghost use Rattle.disk_model.specs.Fused.{fault_count};
+ghost use Rattle.std.specs.Prelude.{◌≡◌, ◌+◌, ℕ, min, true, Option};
+ghost use Rattle.disk_model.specs.Disk.{last_count, min-last_count, HasByte};
+ghost use Rattle.disk_model.specs.CrashOutcome.{IsCrashOutcome, content_stays, calls_keep_byte};
+ghost use Rattle.disk_model.specs.FileState.{Calls};
+ghost use Rattle.disk_model.specs.Fused.{CallsThrough, fault_count, keeps_through};
 
 use disk_model::{Disk, Fused, ModelFile};
 use std::alloc::Global;
@@ -72,11 +73,16 @@ impl Disk for Flaky {
 
     ghost faults = { λ disk. fault_count (λ file. min file.faults last_count) disk.file };
 
-    ghost called = { λ old call succeeded new. ⊤ };
+    ghost called = { λ old call succeeded new. (left : Option ℕ)
+        × CallsThrough Calls (record old.file { left = left }) call succeeded new.file };
 
     ghost stays = { λ disk _. content_stays disk.file.inner };
 
     ghost are_bytes = { λ disk left _ outcome. outcome.are_bytes };
+
+    ghost keeps_byte = { λ old new call succeeded _ is.
+        keeps_through Calls (λ file. HasByte (IsCrashOutcome file)) calls_keep_byte
+        (record old.file { left = is.0 }) new.file call succeeded is.1 };
 
     ghost few_faults = { λ disk.
         min-last_count (min disk.file.inner.faults last_count + disk.file.faults) };
