@@ -14,7 +14,7 @@ use std::fs::{File, Files};
 use std::io;
 use std::time::Clock;
 use world_actions::Refusal;
-use world_folder::{Ending, Exit, SystemFolder, blame, failure_of, open_files};
+use world_folder::{Ending, Exit, Failure, SystemFolder, blame, failure_of, open_files};
 
 /// The folder of the world.
 const FOLDER: &str = "world";
@@ -27,7 +27,7 @@ fn main(rt: HostRuntime) -> Exit {
     let null = blame(rt.alloc(), "/dev", "null", take_standard_streams(&rt));
     let _null = match null {
         Ok(null) => null,
-        Err(ending) => return Exit::plain(ending),
+        Err(failure) => return Exit::plain(Ending::Failed(failure)),
     };
     Exit::plain(Ending::of_command(play(&rt)))
 }
@@ -35,17 +35,17 @@ fn main(rt: HostRuntime) -> Exit {
 // Opens the world, answers the batches of standard input, and gives the files back at its end.
 fn play<R: Input + Print + Eprint + Clock + Files<File = File> + AllocGlobal + Clone + Drop>(
     rt: &R,
-) -> Result<(), Ending> {
+) -> Result<(), Failure> {
     let mut folder = SystemFolder::new(rt, FOLDER);
     let files = open_files(&mut folder)?;
     let mut world = match SerialWorld::<PlainCopy, FileDisk>::open(rt.alloc(), files, EVERY) {
         Ok(world) => world,
         Err((files, Refusal::Device)) => return Err(failure_of(&folder, &files)),
-        Err((_, refusal)) => return Err(Ending::Fault(refusal)),
+        Err((_, refusal)) => return Err(Failure::Refused(refusal)),
     };
     let (mut input, mut output) = (rt.reader(), io::writer(rt));
     match serve_lines(rt.alloc(), &mut input, &mut output, &mut world) {
         Ok(()) => Ok(()),
-        Err(refusal) => Err(Ending::Fault(refusal)),
+        Err(refusal) => Err(Failure::Refused(refusal)),
     }
 }

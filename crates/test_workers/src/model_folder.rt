@@ -16,7 +16,7 @@ use std::fmt::Display;
 use std::io::{self, ErrorKind};
 use world_actions::Refusal;
 use world_folder::{
-    Ending, Entry, FileKind, Folder, GUARD, Guard, Identity, LockState, Occupied, Reading, Source,
+    Entry, Failure, FileKind, Folder, GUARD, Guard, Identity, LockState, Occupied, Reading, Source,
     SourceFile, WorldDisk,
 };
 use world_server::ServedDisk;
@@ -210,7 +210,7 @@ impl Source for ModelFolder<'_> {
         Ok(SourceFile::of(disk))
     }
 
-    fn read_guard(&mut self) -> Result<Option<Guard>, Ending> {
+    fn read_guard(&mut self) -> Result<Option<Guard>, Failure> {
         let guard = self.guard;
         self.note(Note::GuardRead(guard))?;
         Ok(guard)
@@ -311,12 +311,12 @@ impl Folder for ModelFolder<'_> {
         disk_of(self.alloc, bytes, entry.identity)
     }
 
-    fn unguarded(&self) -> Result<(), Ending> {
+    fn unguarded(&self) -> Result<(), Failure> {
         if self.guard.is_none() {
             return Ok(());
         }
         let path = self.path_of(GUARD)?;
-        Err(Ending::Occupied(Occupied { path }))
+        Err(Failure::Occupied(Occupied { path }))
     }
 
     fn put_guard(&mut self, guard: &Guard) -> io::Result<()> {

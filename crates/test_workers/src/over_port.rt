@@ -21,7 +21,7 @@ use std::time::Clock;
 use transports::Listener;
 use worker_steps::Opened;
 use world_actions::Refusal;
-use world_folder::{Checks, Ending, Guard, OnLoss, Source, WorldReport};
+use world_folder::{Checks, Ending, Failure, Guard, OnLoss, Source, WorldReport};
 use world_server::{
     Address, Clients, Every, FolderRun, Frontend, IntoFrontend, Left, Line, Losses, Service,
     serve_folder, serve_world,
@@ -82,10 +82,10 @@ impl<R: Wait + Abort + Copy, M: Method, D: Disk + Drop> Frontend<M, D, Reporter<
         keep(&self.rt, &mut self.noted, line);
     }
 
-    fn open(&mut self, _opened: &Opened<M, D>) -> Result<(Listener, Reporter<R>), Ending> {
+    fn open(&mut self, _opened: &Opened<M, D>) -> Result<(Listener, Reporter<R>), Failure> {
         match (self.listener.take(), self.watch.take()) {
             (Some(listener), Some(watch)) => Ok((listener, watch)),
-            _ => Err(Ending::Fault(Refusal::Device)),
+            _ => Err(Failure::Refused(Refusal::Device)),
         }
     }
 
@@ -306,5 +306,10 @@ fn damaged_world_in_a_folder_is_only_read(rt: HostRuntime) {
     let mut folder = ModelFolder::new(rt.alloc(), "D", bytes, each(true));
     let run = run_in(&rt, &mut folder, None);
     same(&rt, "read", matches!(run.left, Left::Read(_)), true);
-    same(&rt, "named", matches!(run.ending, Ending::NoWorld(_)), true);
+    same(
+        &rt,
+        "named",
+        matches!(run.ending, Ending::Failed(Failure::NoWorld(_))),
+        true,
+    );
 }

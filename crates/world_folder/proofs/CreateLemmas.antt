@@ -8,8 +8,8 @@ use Rattle.disk_model.specs.FourFiles.{EachFile, KeepsFile, each_of, fault_count
 use Rattle.engine.specs.Follows.{AreSound}
 use Rattle.engine.specs.Runs.{SomeGrew}
 use Rattle.world_start.specs.Opening.{AreSynced}
-use Rattle.world_folder.specs.declared.ending.Ending.{Ending}
-use Rattle.world_folder.specs.declared.ending.Ending.TheVariants.{Fault, Occupied}
+use Rattle.world_folder.specs.declared.failure.Failure.{Failure}
+use Rattle.world_folder.specs.declared.failure.Failure.TheVariants.{Refused, Occupied}
 use Rattle.world_folder.specs.declared.create_command.NotCreated.{NotCreated}
 use Rattle.world_folder.specs.declared.entry.Identity.{Identity}
 use Rattle.world_folder.specs.declared.new_world.FirstWords.{FirstWords}
@@ -20,7 +20,7 @@ use Rattle.world_folder.specs.NewWorld.{HoldNoOther, IsMadeOf, IsUnmade, Reports
 use Rattle.world_folder.specs.NewWorldFiles.{AreCompleted, AreFound, AreFoundInPart, AreTaken, KeepsThere}
 use Rattle.world_folder.proofs.NewWorldFilesLemmas.{all_kept_still, found_in_part, made_still, none_made, taken_closed, there_same}
 
-no_memory_is_device : (refusal : Refusal) → refusal ≡ NoMemory → Fault refusal ≡ Fault Device → ⊥
+no_memory_is_device : (refusal : Refusal) → refusal ≡ NoMemory → Refused refusal ≡ Refused Device → ⊥
 no_memory_is_device refusal memory device = cc
 
 module _ {D : Type 0} (disk : Ghosts D) where
@@ -58,10 +58,10 @@ module _ {D : Type 0} (identity : D → Identity) (disk : Ghosts D) where
   })
 
   -- the command ends before it opens a file
-  pub ends_before : {T : Type 0} (Q : NotCreated D → Type 0) (ending : Ending) (result : Result T (NotCreated D)) → IsErrAnd result (λ failed. (failed.files ≡ each_of None) × (failed.ending ≡ ending))
-      → ((failed : NotCreated D) → failed.files ≡ each_of None → Q failed) → IfErr result Q
-  ends_before Q ending (Ok value) is f = tt
-  ends_before Q ending (Err failed) is f = f failed is.0
+  pub ends_before : {T : Type 0} (Q : NotCreated D → Type 0) (failure : Failure) (result : Result T (NotCreated D))
+      → IsErrAnd result (λ failed. (failed.files ≡ each_of None) × (failed.failure ≡ failure)) → ((failed : NotCreated D) → failed.files ≡ each_of None → Q failed) → IfErr result Q
+  ends_before Q failure (Ok value) is f = tt
+  ends_before Q failure (Err failed) is f = f failed is.0
 
   -- those files that weren't there were made, up to a call that failed
   pub left_completed : (words : FirstWords) (there files : FourFiles (Option D)) (before looked completed after : List Act) → AreFound identity there before looked
@@ -77,10 +77,10 @@ module _ {D : Type 0} (identity : D → Identity) (disk : Ghosts D) where
   }
 
   -- no world was made of the files that were taken
-  pub left_taken : (words : FirstWords) (files half : FourFiles D) (left : FourFiles (Option D)) (folder : List ℕ) (ending : Ending) (before after : List Act) → left ≡ mapped Some half
-      → AreTaken disk identity files before after → IsUnmade disk folder files words ending half
-      → (ending ≡ Fault Device → SomeGrew (fault_counts disk.faults files) (fault_counts disk.faults half)) → AreLeft identity disk words left before after
-  left_taken words files half left folder ending before after all taken unmade device =
+  pub left_taken : (words : FirstWords) (files half : FourFiles D) (left : FourFiles (Option D)) (folder : List ℕ) (failure : Failure) (before after : List Act) → left ≡ mapped Some half
+      → AreTaken disk identity files before after → IsUnmade disk folder files words failure half
+      → (failure ≡ Refused Device → SomeGrew (fault_counts disk.faults files) (fault_counts disk.faults half)) → AreLeft identity disk words left before after
+  left_taken words files half left folder failure before after all taken unmade device =
       let kept = taken.completed.kept in
       subst (λ (it : FourFiles (Option D)). AreLeft identity disk words it before after) (sym all) (record {
         there = taken.there;
@@ -101,11 +101,11 @@ module _ {D : Type 0} (identity : D → Identity) (disk : Ghosts D) where
               failed = device failed;
               safe = unmade.safe taken.synced_files (taken_closed disk identity files before after taken);
             }))
-            (read_or_failed ending unmade.reported unmade.kept);
+            (read_or_failed failure unmade.reported unmade.kept);
       })
     where
-      read_or_failed : (ending : Ending) → ReportsUnmade disk.content folder files ending → (ending ≢ Fault Device → EachFile files half (KeepsFile disk))
-          → EachFile files half (KeepsFile disk) ⊎ (ending ≡ Fault Device)
-      read_or_failed (Fault refusal) reported kept = ⊎_elim (λ memory. inl (kept (λ is. no_memory_is_device refusal memory is))) (λ is. inr (ap Fault is)) reported
+      read_or_failed : (failure : Failure) → ReportsUnmade disk.content folder files failure → (failure ≢ Refused Device → EachFile files half (KeepsFile disk))
+          → EachFile files half (KeepsFile disk) ⊎ (failure ≡ Refused Device)
+      read_or_failed (Refused refusal) reported kept = ⊎_elim (λ memory. inl (kept (λ is. no_memory_is_device refusal memory is))) (λ is. inr (ap Refused is)) reported
       read_or_failed (Occupied named) reported kept = inl (kept (λ is. cc))
       read_or_failed other reported kept = absurd reported

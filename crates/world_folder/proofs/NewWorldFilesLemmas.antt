@@ -19,8 +19,8 @@ use Rattle.world_folder.specs.NewWorldFiles.{IsOpenFile, IsOpenThere, IsOccupied
 use Rattle.world_folder.specs.NewWorldFiles.{IsSyncedIfThere, EachSynced, AreCompleted, AreFound, AreFoundInPart, AreTaken}
 use Rattle.world_folder.specs.History.{Act}
 use Rattle.world_folder.specs.NewWorld.{ReportsUnmade}
-use Rattle.world_folder.specs.declared.ending.Ending.{Ending}
-use Rattle.world_folder.specs.declared.ending.Ending.TheVariants.{Fault, Occupied}
+use Rattle.world_folder.specs.declared.failure.Failure.{Failure}
+use Rattle.world_folder.specs.declared.failure.Failure.TheVariants.{Refused, Occupied}
 use Rattle.world_folder.specs.declared.entry.Identity.{Identity}
 use Rattle.world_folder.specs.declared.heads.TheConstants.{IMAGE_HEAD, SEGMENT_HEAD}
 use Rattle.disk_model.specs.declared.world_file.WorldFile.{WorldFile}
@@ -198,11 +198,11 @@ found_in_part identity files before after found = record {
 }
 
 -- closed files are no reason to name one
-closed_not_occupied : {D : Type 0} (file : D → List ℕ) (folder : List ℕ) (files : FourFiles D) (ending : Ending)
-    → FilesAreClosed file files → ReportsUnmade file folder files ending → IsOccupied ending → ⊥
-closed_not_occupied file folder files (Fault NotEmpty) closed reported occupied =
+closed_not_occupied : {D : Type 0} (file : D → List ℕ) (folder : List ℕ) (files : FourFiles D) (failure : Failure)
+    → FilesAreClosed file files → ReportsUnmade file folder files failure → IsOccupied failure → ⊥
+closed_not_occupied file folder files (Refused NotEmpty) closed reported occupied =
     ⊎_elim (λ is. absurd cc) (λ is. absurd cc) reported
-closed_not_occupied file folder files (Fault refusal) closed reported occupied = absurd occupied
+closed_not_occupied file folder files (Refused refusal) closed reported occupied = absurd occupied
 closed_not_occupied file folder files (Occupied named) closed reported occupied =
     ⊎_elim (λ is. is.1 closed.image_a_closed)
     (⊎_elim (λ is. is.2 closed.image_b_closed)
@@ -210,7 +210,7 @@ closed_not_occupied file folder files (Occupied named) closed reported occupied 
 closed_not_occupied file folder files other closed reported occupied = absurd reported
 
 -- none of the files that were taken for a new world is named as one that may hold a world
-pub taken_not_occupied : {D : Type 0} (disk : Ghosts D) (identity : D → Identity) (folder : List ℕ) (files : FourFiles D) (before after : List Act) (ending result : Ending)
-    → AreTaken disk identity files before after → ReportsUnmade disk.content folder files ending → result ≡ ending → IsOccupied result → ⊥
-taken_not_occupied disk identity folder files before after ending result taken reported same occupied =
-    closed_not_occupied disk.content folder files ending (taken_closed disk identity files before after taken) reported (subst IsOccupied same occupied)
+pub taken_not_occupied : {D : Type 0} (disk : Ghosts D) (identity : D → Identity) (folder : List ℕ) (files : FourFiles D) (before after : List Act) (failure result : Failure)
+    → AreTaken disk identity files before after → ReportsUnmade disk.content folder files failure → result ≡ failure → IsOccupied result → ⊥
+taken_not_occupied disk identity folder files before after failure result taken reported same occupied =
+    closed_not_occupied disk.content folder files failure (taken_closed disk identity files before after taken) reported (subst IsOccupied same occupied)

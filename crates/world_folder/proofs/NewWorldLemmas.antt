@@ -14,15 +14,15 @@ use Rattle.recovery.specs.Sound.{HoldsWorld, IsSoundReading, IsFresh, IsFreshIma
 use Rattle.file_readers.specs.Reading.{AreFilesRead}
 use Rattle.world_start.specs.Opening.{AreSynced}
 use Rattle.world_start.specs.Fresh.{AreClosed, AreMade, AreNotMade, FilesAreClosed}
-use Rattle.world_folder.specs.declared.ending.Ending.{Ending}
-use Rattle.world_folder.specs.declared.ending.Ending.TheVariants.{Fault, Occupied}
-use Rattle.world_folder.specs.declared.ending.Occupied.{Occupied as OpenFile}
+use Rattle.world_folder.specs.declared.failure.Failure.{Failure}
+use Rattle.world_folder.specs.declared.failure.Failure.TheVariants.{Refused, Occupied}
+use Rattle.world_folder.specs.declared.failure.Occupied.{Occupied as OpenFile}
 use Rattle.world_folder.specs.declared.new_world.FirstWords.{FirstWords}
 use Rattle.world_folder.specs.declared.new_world.FirstWords.TheVariants.{Zeros, Listed}
 use Rattle.world_folder.specs.NewWorld.{IsFirstOpen, ReportsUnmade, IsUnmade, IsMadeOf, HoldsWords, HoldNoOther, recovery_of_words}
 
 -- a fault names one refusal
-pub device_named : (refusal : Refusal) → Fault refusal ≡ Fault Device → refusal ≡ Device
+pub device_named : (refusal : Refusal) → Refused refusal ≡ Refused Device → refusal ≡ Device
 device_named refusal is = cc
 
 -- ---- the files as they were read
@@ -185,9 +185,9 @@ module _ {D : Type 0} (disk : Ghosts D) where
     still_fresh files read words.now kept synced closed,
   )
 
-  pub read_unmade : (folder : List ℕ) (words : FirstWords) (files read : FourFiles D) (ending : Ending) → ReportsUnmade disk.content folder files ending
-      → EachFile files read (KeepsFile disk) → IsUnmade disk folder files words ending read
-  read_unmade folder words files read ending reported kept = record { reported = reported; kept = λ other. kept; safe = no_other_read words files read kept }
+  pub read_unmade : (folder : List ℕ) (words : FirstWords) (files read : FourFiles D) (failure : Failure) → ReportsUnmade disk.content folder files failure
+      → EachFile files read (KeepsFile disk) → IsUnmade disk folder files words failure read
+  read_unmade folder words files read failure reported kept = record { reported = reported; kept = λ other. kept; safe = no_other_read words files read kept }
 
   -- what is made of closed files that were read before is made of them
   pub made_on : (words : FirstWords) (files read made : FourFiles D) → FilesAreClosed disk.content files → EachFile files read (KeepsFile disk)
@@ -211,7 +211,7 @@ module _ {D : Type 0} (disk : Ghosts D) where
   }
 
   pub unmade_on : (folder : List ℕ) (words : FirstWords) (files read left : FourFiles D) (refusal : Refusal) → FilesAreClosed disk.content files → EachFile files read (KeepsFile disk)
-      → IsUnmade disk folder read words (Fault refusal) left → IsUnmade disk folder files words (Fault refusal) left
+      → IsUnmade disk folder read words (Refused refusal) left → IsUnmade disk folder files words (Refused refusal) left
   unmade_on folder words files read left refusal closed kept is = record {
     reported = is.reported;
     kept = λ other. (
@@ -226,12 +226,12 @@ module _ {D : Type 0} (disk : Ghosts D) where
 
   pub zeros_unmade : (words : FirstWords) (cells : ℕ) (files : FourFiles D) (made : Result (FourFiles D) (FourFiles D × Refusal)) → words ≡ Zeros cells → FilesAreClosed disk.content files
       → IfErr made (λ refused. (refused.1 ≡ NotEmpty) ⊎ ((refused.1 ≡ NoMemory) ⊎ (refused.1 ≡ Device))) → IfErr made (λ refused. AreNotMade disk files cells refused.1 refused.0)
-      → IfErr made (λ refused. (folder : List ℕ) → IsUnmade disk folder files words (Fault refused.1) refused.0)
+      → IfErr made (λ refused. (folder : List ℕ) → IsUnmade disk folder files words (Refused refused.1) refused.0)
   zeros_unmade words cells files (Ok made) is closed why none = tt
   zeros_unmade words cells files (Err refused) is closed why none = λ folder.
-      subst (λ (first : FirstWords). IsUnmade disk folder files first (Fault refused.1) refused.0) (sym is) (record {
+      subst (λ (first : FirstWords). IsUnmade disk folder files first (Refused refused.1) refused.0) (sym is) (record {
         reported = ⊎_elim (λ not_empty. absurd (none.not_empty not_empty closed)) (λ other. other) why;
-        kept = λ other. none.kept (λ device. other (ap Fault device));
+        kept = λ other. none.kept (λ device. other (ap Refused device));
         safe = none.safe;
       })
 
@@ -239,11 +239,11 @@ module _ {D : Type 0} (disk : Ghosts D) where
   pub unwritten : (folder : List ℕ) (words : Bor (List ℕ)) (files : FourFiles D) (image : D) (refusal : Refusal)
       → FilesAreClosed disk.content files → (refusal ≡ NoMemory) ⊎ (refusal ≡ Device) → (refusal ≡ NoMemory → image ≡ files.image_a)
       → (Only (disk.content files.image_a) (disk.may_leave files.image_a) → (left : List ℕ) → disk.may_leave image left → (image_of left ≡ Closed) ⊎ (image_of left ≡ Open 0 words.now))
-      → IsUnmade disk folder files (Listed words) (Fault refusal) (record files { image_a = image })
+      → IsUnmade disk folder files (Listed words) (Refused refusal) (record files { image_a = image })
   unwritten folder words files image refusal closed why memory leaves_so = record {
     reported = why;
     kept = λ other. record {
-      image_a = subst (λ (it : D). KeepsFile disk files.image_a it) (sym (memory (⊎_elim (λ none. none) (λ device. absurd (other (ap Fault device))) why))) (kept_same files.image_a);
+      image_a = subst (λ (it : D). KeepsFile disk files.image_a it) (sym (memory (⊎_elim (λ none. none) (λ device. absurd (other (ap Refused device))) why))) (kept_same files.image_a);
       image_b = kept_same files.image_b;
       log_a = kept_same files.log_a;
       log_b = kept_same files.log_b;

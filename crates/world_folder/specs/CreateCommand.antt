@@ -14,8 +14,8 @@ use Rattle.world_folder.specs.NewWorld.{HoldNoOther, IsMadeOf, count_of, words_o
 use Rattle.world_folder.specs.History.{Act, IsSyncedInPart, Printed}
 use Rattle.world_folder.specs.Texts.{created_text}
 use Rattle.world_folder.specs.declared.entry.Identity.{Identity}
-use Rattle.world_folder.specs.declared.ending.Ending.{Ending}
-use Rattle.world_folder.specs.declared.ending.Ending.TheVariants.{Fault, Unreadable, Unfinished}
+use Rattle.world_folder.specs.declared.failure.Failure.{Failure}
+use Rattle.world_folder.specs.declared.failure.Failure.TheVariants.{Refused, Unreadable, Unfinished}
 use Rattle.world_folder.specs.Ending.{IsOfPrint}
 use Rattle.world_folder.specs.declared.new_world.FirstWords.{FirstWords}
 use Rattle.world_folder.specs.declared.unfinished.Why.TheVariants as why
@@ -37,13 +37,13 @@ module _ {D : Type 0} (identity : D → Identity) (disk : Ghosts D) where
     pub world : IsMadeIn words made before acts
     pub printed : after ≡ Printed (created_text (count_of words)) ∷ acts
 
-  -- No world was made, since a file that is there may hold one. The ending names the first such
+  -- No world was made, since a file that is there may hold one. The failure names the first such
   -- file. No file was made. Those that are there were opened, and then only read.
-  pub record IsRefused (folder : List ℕ) (ending : Ending) (left : FourFiles (Option D))
+  pub record IsRefused (folder : List ℕ) (failure : Failure) (left : FourFiles (Option D))
       (before after : List Act) : Type 0 where
     pub there : FourFiles (Option D)
     pub found : AreFound identity there before after
-    pub reported : ReportsOpen disk.content folder there ending
+    pub reported : ReportsOpen disk.content folder there failure
     pub kept : EachFile there left (KeepsThere disk)
 
   -- A call of a file failed as a world was written. None that was there was open. Whatever a crash
@@ -71,24 +71,24 @@ module _ {D : Type 0} (identity : D → Identity) (disk : Ghosts D) where
     pub written : EachFile there left (IsKept disk) ⊎ IsHalfMade words there left
 
   -- the world was made, and a print failed
-  pub record IsUnprinted (words : FirstWords) (left : FourFiles (Option D)) (ending : Ending)
+  pub record IsUnprinted (words : FirstWords) (left : FourFiles (Option D)) (failure : Failure)
       (before after : List Act) : Type 0 where
-    pub of_print : IsOfPrint ending
+    pub of_print : IsOfPrint failure
     pub made : FourFiles D
     pub all : left ≡ mapped Some made
     pub world : IsMadeIn words made before after
 
   -- no world was reported
-  abbrev pub IsNotCreated : FirstWords → (left : FourFiles (Option D)) → Ending
+  abbrev pub IsNotCreated : FirstWords → (left : FourFiles (Option D)) → Failure
       → (before after : List Act) → Type 0
-  IsNotCreated words left ending before after =
-      AreLeft words left before after ⊎ IsUnprinted words left ending before after
+  IsNotCreated words left failure before after =
+      AreLeft words left before after ⊎ IsUnprinted words left failure before after
 
--- the ending of a command that made these files: it names them, if a file failed or
+-- the failure of a command that made these files: it names them, if a file failed or
 -- memory ran out
-abbrev pub IsUnfinished : FourFiles Bool → Ending → Ending → Type 0
+abbrev pub IsUnfinished : FourFiles Bool → Failure → Failure → Type 0
 IsUnfinished made (Unreadable file) result =
     result ≡ Unfinished (record { made = made; why = why.File file })
-IsUnfinished made (Fault NoMemory) result =
+IsUnfinished made (Refused NoMemory) result =
     result ≡ Unfinished (record { made = made; why = why.NoMemory })
-IsUnfinished made ending result = result ≡ ending
+IsUnfinished made failure result = result ≡ failure

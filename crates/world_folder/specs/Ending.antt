@@ -11,13 +11,16 @@ use Rattle.world_actions.specs.declared.refusal.Refusal.TheVariants.{NoMemory, D
 use Rattle.disk_model.specs.declared.four_files.FourFiles.{FourFiles}
 use Rattle.world_folder.specs.declared.ending.Ending.{Ending}
 use Rattle.world_folder.specs.declared.ending.ServerEnding.{ServerEnding}
-use Rattle.world_folder.specs.declared.ending.ServerEnding.TheVariants.{NoPort, NoThread}
 use Rattle.world_folder.specs.declared.ending.ServerEnding.TheVariants.{ListenerFailed, ImagesDown}
 use Rattle.world_folder.specs.declared.ending.ServerEnding.TheVariants.{LogDown}
-use Rattle.world_folder.specs.declared.ending.Ending.TheVariants.{Ran, HelpPrinted, Mistaken, Fault}
-use Rattle.world_folder.specs.declared.ending.Ending.TheVariants.{Unreadable, NoWorld, Unfinished}
-use Rattle.world_folder.specs.declared.ending.Ending.TheVariants.{Unlisted, Server, MayBeOlder}
+use Rattle.world_folder.specs.declared.ending.Ending.TheVariants.{Ran, HelpPrinted, Mistaken}
+use Rattle.world_folder.specs.declared.ending.Ending.TheVariants.{MayBeOlder, Failed, Stopped}
 use Rattle.world_folder.specs.declared.ending.Ending.TheVariants as ending
+use Rattle.world_folder.specs.declared.failure.Failure.{Failure}
+use Rattle.world_folder.specs.declared.failure.Failure.TheVariants.{Refused, Unreadable, NoWorld}
+use Rattle.world_folder.specs.declared.failure.Failure.TheVariants.{Unfinished, Unlisted}
+use Rattle.world_folder.specs.declared.failure.Failure.TheVariants.{NoPort, NoThread}
+use Rattle.world_folder.specs.declared.failure.Failure.TheVariants as failure
 use Rattle.world_folder.specs.declared.ending.Unwell.{Unwell}
 use Rattle.world_folder.specs.declared.ending.Unwell.TheVariants as unwell
 use Rattle.world_folder.specs.Fault.{Files, AreRead, Explains, refusal_of}
@@ -71,8 +74,6 @@ IsStatusOfRefusal statuses refusal status =
 
 -- the exit status for the end of a server
 abbrev pub IsStatusOfServer : Statuses → ServerEnding → (status : ℕ) → Type 0
-IsStatusOfServer statuses (NoPort port) status = IsStatusOfError statuses port.error status
-IsStatusOfServer statuses NoThread status = status ≡ shortage_status statuses
 IsStatusOfServer statuses ListenerFailed status = status ≡ listener_status statuses
 IsStatusOfServer statuses ImagesDown status = status ≡ 11
 IsStatusOfServer statuses LogDown status = status ≡ 12
@@ -94,40 +95,40 @@ unwell_status unwell.LogDown = 12
 unwell_status unwell.NotServed = 15
 unwell_status unwell.Hangs = 16
 
+-- the exit status of a command that failed
+abbrev pub IsStatusOfFailure : Statuses → Failure → (status : ℕ) → Type 0
+IsStatusOfFailure statuses (Refused refusal) status = IsStatusOfRefusal statuses refusal status
+IsStatusOfFailure statuses (Unreadable file) status = IsStatusOfError statuses file.error status
+IsStatusOfFailure statuses (NoWorld fault) status =
+    IsStatusOfRefusal statuses (refusal_of fault) status
+IsStatusOfFailure statuses (Unfinished unfinished) status =
+    IsStatusOfUnfinished statuses unfinished.why status
+IsStatusOfFailure statuses (Unlisted file) status =
+    (file.why ≡ bad.NoMemory → status ≡ shortage_status statuses)
+    × (file.why ≢ bad.NoMemory → status ≡ 1)
+IsStatusOfFailure statuses (NoPort port) status = IsStatusOfError statuses port.error status
+IsStatusOfFailure statuses NoThread status = status ≡ shortage_status statuses
+IsStatusOfFailure statuses other status = status ≡ 1
+
 -- the exit status of each way to end
 abbrev pub IsStatusOf : Statuses → Ending → (status : ℕ) → Type 0
 IsStatusOf statuses Ran status = status ≡ 0
 IsStatusOf statuses MayBeOlder status = status ≡ 14
 IsStatusOf statuses HelpPrinted status = status ≡ 0
 IsStatusOf statuses Mistaken status = status ≡ 2
-IsStatusOf statuses (Fault refusal) status = IsStatusOfRefusal statuses refusal status
-IsStatusOf statuses (Unreadable file) status = IsStatusOfError statuses file.error status
-IsStatusOf statuses (NoWorld fault) status = IsStatusOfRefusal statuses (refusal_of fault) status
-IsStatusOf statuses (Unfinished unfinished) status =
-    IsStatusOfUnfinished statuses unfinished.why status
-IsStatusOf statuses (Unlisted file) status =
-    (file.why ≡ bad.NoMemory → status ≡ shortage_status statuses)
-    × (file.why ≢ bad.NoMemory → status ≡ 1)
-IsStatusOf statuses (Server ending) status = IsStatusOfServer statuses ending status
+IsStatusOf statuses (Failed failure) status = IsStatusOfFailure statuses failure status
+IsStatusOf statuses (Stopped ending) status = IsStatusOfServer statuses ending status
 IsStatusOf statuses (ending.Unwell why) status = status ≡ unwell_status why
-IsStatusOf statuses other status = status ≡ 1
 
 -- it is printed as a fault, with status 1 or 13
-abbrev pub IsFault : Ending → Type 0
-IsFault Ran = ⊥
-IsFault MayBeOlder = ⊥
-IsFault HelpPrinted = ⊥
-IsFault Mistaken = ⊥
-IsFault (Server ListenerFailed) = ⊥
-IsFault (Server ImagesDown) = ⊥
-IsFault (Server LogDown) = ⊥
-IsFault (ending.Unwell why) = ⊥
-IsFault other = Unit {0}
+abbrev pub IsFailed : Ending → Type 0
+IsFailed (Failed failure) = Unit {0}
+IsFailed other = ⊥
 
--- the ending says that a line wasn't printed
-abbrev pub IsOfPrint : Ending → Type 0
-IsOfPrint (ending.Stream failure) = Unit {0}
-IsOfPrint (Fault NoMemory) = Unit {0}
+-- the failure says that a line wasn't printed
+abbrev pub IsOfPrint : Failure → Type 0
+IsOfPrint (failure.Stream stream) = Unit {0}
+IsOfPrint (Refused NoMemory) = Unit {0}
 IsOfPrint other = ⊥
 
 -- the command did its work, on a world that may be older or not
@@ -149,37 +150,37 @@ ending_of (Some (finding.Lost (lost.Older older))) = MayBeOlder
 ending_of (Some (finding.Lost other)) = Ran
 ending_of (Some (finding.Doubtful slot)) = MayBeOlder
 
--- the ending names this error and the file of this name in a folder, or there was no
+-- the failure names this error and the file of this name in a folder, or there was no
 -- memory for its path
-abbrev pub ReportsOf : (folder name : List ℕ) → Error → Ending → Type 0
-ReportsOf folder name error (Fault refusal) = refusal ≡ NoMemory
+abbrev pub ReportsOf : (folder name : List ℕ) → Error → Failure → Type 0
+ReportsOf folder name error (Refused refusal) = refusal ≡ NoMemory
 ReportsOf folder name error (Unreadable file) =
     (path_buf_bytes file.path ≡ path_join folder name) × (file.error ≡ error)
 ReportsOf folder name error other = ⊥
 
--- the ending names this file of a folder, or there was no memory for its path
-abbrev pub NamesFile : (folder : List ℕ) → WorldFile → Ending → Type 0
-NamesFile folder file ending = (error : Error) × ReportsOf folder (name_of file) error ending
+-- the failure names this file of a folder, or there was no memory for its path
+abbrev pub NamesFile : (folder : List ℕ) → WorldFile → Failure → Type 0
+NamesFile folder file failure = (error : Error) × ReportsOf folder (name_of file) error failure
 
--- the ending names the file of a folder that failed; without one, the device did
-abbrev pub ReportsFailure : (folder : List ℕ) → Option (WorldFile × Error) → Ending → Type 0
-ReportsFailure folder None ending = ending ≡ Fault Device
-ReportsFailure folder (Some failed) ending = ReportsOf folder (name_of failed.0) failed.1 ending
+-- the failure names the file of a folder that failed; without one, the device did
+abbrev pub ReportsFailure : (folder : List ℕ) → Option (WorldFile × Error) → Failure → Type 0
+ReportsFailure folder None failure = failure ≡ Refused Device
+ReportsFailure folder (Some failed) failure = ReportsOf folder (name_of failed.0) failed.1 failure
 
--- the ending names the first of four files in a folder that couldn't be read, with its error
+-- the failure names the first of four files in a folder that couldn't be read, with its error
 abbrev pub ReportsOfFirst : (folder : List ℕ)
-    → FourFiles (Result (Vec ℕ Global) Error) → Ending → Type 0
-ReportsOfFirst folder files ending =
+    → FourFiles (Result (Vec ℕ Global) Error) → Failure → Type 0
+ReportsOfFirst folder files failure =
     MatchResult files.image_a (λ _. MatchResult files.image_b
     (λ _. MatchResult files.log_a (λ _. MatchResult files.log_b (λ _. ⊥)
-    (λ error. ReportsOf folder LOG_B.now error ending))
-    (λ error. ReportsOf folder LOG_A.now error ending))
-    (λ error. ReportsOf folder IMAGE_B.now error ending))
-    (λ error. ReportsOf folder IMAGE_A.now error ending)
+    (λ error. ReportsOf folder LOG_B.now error failure))
+    (λ error. ReportsOf folder LOG_A.now error failure))
+    (λ error. ReportsOf folder IMAGE_B.now error failure))
+    (λ error. ReportsOf folder IMAGE_A.now error failure)
 
--- the ending says why no world was found in the four files of a folder, which were read so
+-- the failure says why no world was found in the four files of a folder, which were read so
 abbrev pub ReportsWhy : Checks → (folder : List ℕ)
-    → FourFiles (Result (Vec ℕ Global) Error) → Ending → Type 0
+    → FourFiles (Result (Vec ℕ Global) Error) → Failure → Type 0
 ReportsWhy checks folder files (NoWorld fault) =
     (bytes : Files) × AreRead files bytes × Explains checks bytes fault
-ReportsWhy checks folder files ending = ReportsOfFirst folder files ending
+ReportsWhy checks folder files failure = ReportsOfFirst folder files failure

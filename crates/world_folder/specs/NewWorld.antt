@@ -22,8 +22,8 @@ use Rattle.world_actions.specs.World.{IsWorld}
 use Rattle.world_actions.specs.declared.world.TheConstants.{CELLS}
 use Rattle.world_folder.specs.declared.new_world.FirstWords.{FirstWords}
 use Rattle.world_folder.specs.declared.new_world.FirstWords.TheVariants.{Zeros, Listed}
-use Rattle.world_folder.specs.declared.ending.Ending.{Ending}
-use Rattle.world_folder.specs.declared.ending.Ending.TheVariants.{Fault, Occupied}
+use Rattle.world_folder.specs.declared.failure.Failure.{Failure}
+use Rattle.world_folder.specs.declared.failure.Failure.TheVariants.{Refused, Occupied}
 use Rattle.disk_model.specs.declared.world_file.TheConstants.{IMAGE_A, IMAGE_B, LOG_A, LOG_B}
 
 abbrev pub words_of : FirstWords → List ℕ
@@ -50,14 +50,14 @@ IsFirstOpen image_a image_b log_a log_b name =
     × IsSegment log_a ClosedSegment × ¬ IsSegment log_b ClosedSegment)))
 
 module _ {D : Type 0} (file : D → List ℕ) where
-  -- the ending says why no world was made of the four files of a folder: it names the first one
+  -- the failure says why no world was made of the four files of a folder: it names the first one
   -- that isn't closed, or no file
-  abbrev pub ReportsUnmade : (folder : List ℕ) → FourFiles D → Ending → Type 0
+  abbrev pub ReportsUnmade : (folder : List ℕ) → FourFiles D → Failure → Type 0
   ReportsUnmade folder files (Occupied reported) =
       (name : List ℕ) × (path_buf_bytes reported.path ≡ path_join folder name)
       × IsFirstOpen (file files.image_a) (file files.image_b)
       (file files.log_a) (file files.log_b) name
-  ReportsUnmade folder files (Fault refusal) = (refusal ≡ NoMemory) ⊎ (refusal ≡ Device)
+  ReportsUnmade folder files (Refused refusal) = (refusal ≡ NoMemory) ⊎ (refusal ≡ Device)
   ReportsUnmade folder files other = ⊥
 
 -- the files beside image.a are asked for no byte after the greatest length of their format, and
@@ -116,8 +116,8 @@ module _ {D : Type 0} (disk : Ghosts D) where
 
   -- No world was made, and the program ends so. The files were only read, except if a device
   -- failed. If they held no world, a crash leaves no other one in them.
-  pub record IsUnmade (folder : List ℕ) (files : FourFiles D) (words : FirstWords) (ending : Ending)
-      (left : FourFiles D) : Type 0 where
-    pub reported : ReportsUnmade disk.content folder files ending
-    pub kept : ending ≢ Fault Device → EachFile files left (KeepsFile disk)
+  pub record IsUnmade (folder : List ℕ) (files : FourFiles D) (words : FirstWords)
+      (failure : Failure) (left : FourFiles D) : Type 0 where
+    pub reported : ReportsUnmade disk.content folder files failure
+    pub kept : failure ≢ Refused Device → EachFile files left (KeepsFile disk)
     pub safe : AreSynced disk files → FilesAreClosed disk.content files → HoldNoOther words left

@@ -10,8 +10,8 @@ use Rattle.disk_model.specs.declared.disk.Disk.{Ghosts}
 use Rattle.disk_model.specs.FourFiles.{EachFile, KeepsFile, mapped, value_of}
 use Rattle.world_start.specs.Opening.{AreSynced}
 use Rattle.disk_model.specs.declared.four_files.FourFiles.{FourFiles}
-use Rattle.world_folder.specs.declared.ending.Ending.{Ending}
-use Rattle.world_folder.specs.declared.ending.Ending.TheVariants.{Fault, Occupied}
+use Rattle.world_folder.specs.declared.failure.Failure.{Failure}
+use Rattle.world_folder.specs.declared.failure.Failure.TheVariants.{Refused, Occupied}
 use Rattle.world_folder.specs.declared.heads.TheConstants.{IMAGE_HEAD, SEGMENT_HEAD}
 use Rattle.world_folder.specs.declared.entry.Entry.{Entry}
 use Rattle.world_folder.specs.declared.entry.Identity.{Identity}
@@ -22,10 +22,10 @@ use Rattle.disk_model.specs.declared.world_file.WorldFile.{WorldFile}
 use Rattle.disk_model.specs.declared.world_file.WorldFile.TheVariants.{ImageA, ImageB, LogA, LogB}
 use Rattle.disk_model.specs.declared.world_file.TheConstants.{IMAGE_A, IMAGE_B, LOG_A, LOG_B}
 
--- the ending says that a file isn't closed: its code is 22
-abbrev pub IsOccupied : Ending → Type 0
+-- the failure says that a file isn't closed: its code is 22
+abbrev pub IsOccupied : Failure → Type 0
 IsOccupied (Occupied file) = Unit {0}
-IsOccupied (Fault NotEmpty) = Unit {0}
+IsOccupied (Refused NotEmpty) = Unit {0}
 IsOccupied other = ⊥
 
 -- the gate is open, and the file has room for a header of so many bytes: it may hold an
@@ -58,13 +58,13 @@ module _ {D : Type 0} (file : D → List ℕ) where
       × ¬ IsOpenThere IMAGE_HEAD present.image_b
       × ¬ IsOpenThere SEGMENT_HEAD present.log_a × IsOpenThere SEGMENT_HEAD present.log_b)))
 
-  -- the ending says why no world is made in a folder: it names the first file that is there and
+  -- the failure says why no world is made in a folder: it names the first file that is there and
   -- open, or no file
-  abbrev pub ReportsOpen : (folder : List ℕ) → FourFiles (Option D) → Ending → Type 0
+  abbrev pub ReportsOpen : (folder : List ℕ) → FourFiles (Option D) → Failure → Type 0
   ReportsOpen folder present (Occupied reported) =
       (name : List ℕ) × (path_buf_bytes reported.path ≡ path_join folder name)
       × IsFirstThere present name
-  ReportsOpen folder present (Fault refusal) = (refusal ≡ NoMemory) ⊎ (refusal ≡ Device)
+  ReportsOpen folder present (Refused refusal) = (refusal ≡ NoMemory) ⊎ (refusal ≡ Device)
   ReportsOpen folder present other = ⊥
 
 -- all four files are there

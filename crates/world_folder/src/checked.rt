@@ -4,12 +4,11 @@ ghost use Rattle.std.specs.Prelude.{MatchResult};
 ghost use Rattle.disk_model.specs.FourFiles.{EachFile, KeepsFile};
 ghost use Rattle.world_start.specs.Opening.{IsRead};
 ghost use Rattle.world_start.specs.Steps.{IsAhead};
-ghost use Rattle.world_folder.specs.Ending.{IsFault};
 ghost use Rattle.world_folder.specs.History.{GuardRead};
 ghost use Rattle.world_folder.specs.Lost.{JudgedIn, lost_in};
 ghost use Rattle.world_folder.specs.Unrecovered.{IsUnrecovered};
 
-use crate::ending::Ending;
+use crate::failure::Failure;
 use crate::folders::Source;
 use crate::lost::{Checks, Finding, Lost, OnLoss, judge, read_heads};
 use capture_core::Capture;
@@ -76,13 +75,12 @@ pub fn recover_checked<C: Capture + Drop, D: Disk>(
 
 /// The checks of a command that looks at the world in a folder, with its guard: a world that is
 /// older than it is named.
-pub fn checks_in<F: Source>(folder: &mut F, on_loss: OnLoss) -> Result<Checks, Ending>
+pub fn checks_in<F: Source>(folder: &mut F, on_loss: OnLoss) -> Result<Checks, Failure>
     ensures read { IsTrue F.honest → IfOk result (λ checks.
         F.history folder.new ≡ GuardRead checks.guard ∷ F.history folder.old) }
     ensures failed { IsTrue F.honest → OnErr result (F.history folder.new ≡ F.history folder.old) }
     ensures named { IfOk result (λ checks.
         (checks.lost ≡ on_loss) × (checks.older ≡ OnLoss.Warn)) }
-    ensures fault { IfErr result IsFault }
     ensures path { F.path folder.new ≡ F.path folder.old }
 {
     Ok(Checks {

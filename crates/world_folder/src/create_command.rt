@@ -6,16 +6,16 @@ ghost use Rattle.std.specs.Io.KnownBytes.{Consumes, IsAtEnd};
 ghost use Rattle.world_actions.specs.World.{IsWorld};
 ghost use Rattle.disk_model.specs.FourFiles.{mapped, each_of};
 ghost use Rattle.world_folder.specs.NewWorldFiles.{AreTaken, AreThere, IsOccupied};
-ghost use Rattle.world_folder.specs.declared.ending.Ending.{Ending as TheEnding};
+ghost use Rattle.world_folder.specs.declared.failure.Failure.{Failure as TheFailure};
 ghost use Rattle.world_folder.specs.declared.new_world.FirstWords.{FirstWords as TheWords};
 ghost use Rattle.world_folder.specs.CreateCommand.{IsCreated, IsMadeIn, IsNotCreated, IsRefused};
 ghost use Rattle.world_folder.specs.CreateCommand.{IsUnfinished, AreLeft};
 ghost use Rattle.world_folder.specs.NewWorld.{AreFirst, count_of};
-ghost use Rattle.world_folder.specs.Ending.{IsFault, ReportsFailure};
+ghost use Rattle.world_folder.specs.Ending.{ReportsFailure};
 ghost use Rattle.world_folder.specs.Failing.{failure_there, first_failure};
 ghost use Rattle.world_folder.specs.WordsText.{Lists};
 
-use crate::ending::{Ending, Unlisted, ending_of_print};
+use crate::failure::{Failure, Unlisted, failure_of_print};
 use crate::folders::Folder;
 use crate::forward::read_forward;
 use crate::new_world::{FirstWords, Made, make_in};
@@ -34,20 +34,20 @@ use world_actions::Refusal;
 #[derive(Drop)]
 pub struct NotCreated<D> {
     pub files: FourFiles<Option<D>>,
-    pub ending: Ending,
+    pub failure: Failure,
 }
 
-impl<D> From<Ending> for NotCreated<D> {
+impl<D> From<Failure> for NotCreated<D> {
     ghost use Rattle.std.specs.Prelude.{◌≡◌, None};
     ghost use Rattle.disk_model.specs.FourFiles.{each_of};
 
-    ghost from_gives = { λ ending failed. (failed.files ≡ each_of None)
-        × (failed.ending ≡ ending) };
+    ghost from_gives = { λ failure failed. (failed.files ≡ each_of None)
+        × (failed.failure ≡ failure) };
 
-    fn from(ending: Ending) -> Self {
+    fn from(failure: Failure) -> Self {
         NotCreated {
             files: no_files(),
-            ending,
+            failure,
         }
     }
 }
@@ -69,9 +69,8 @@ pub fn create_of_words<R: Files<File = File> + AllocGlobal, F: Folder>(
     ensures left { IsTrue F.honest → IsTrue F.File.honest → IfErr result (λ failed.
         ((failed.files ≡ each_of None) × (folder.new ≡ folder.old))
         ⊎ ((text : List ℕ) × (words : Bor (List ℕ)) × Lists words.now text
-        × IsNotCreated F.identity F.File.Disk (FirstWords.Listed words) failed.files failed.ending
+        × IsNotCreated F.identity F.File.Disk (FirstWords.Listed words) failed.files failed.failure
         (F.history folder.old) (F.history folder.new))) }
-    ensures fault { IfErr result (λ failed. IsFault failed.ending) }
 {
     let listed = read_list(rt, list, asked)?;
     create(folder, FirstWords::Listed(listed.words()))
@@ -90,13 +89,12 @@ pub fn create<F: Folder>(
         (F.history folder.new)) }
     ensures cells { IfOk result (λ created. created.1.cells ≡ count_of words.entry) }
     ensures refused { IsTrue F.honest → IsTrue F.File.honest → IfErr result (λ failed.
-        IsOccupied failed.ending → (folder.new ≡ folder.old) ⊎ IsRefused F.identity F.File.Disk
-        (F.path folder.old) failed.ending failed.files (F.history folder.old)
+        IsOccupied failed.failure → (folder.new ≡ folder.old) ⊎ IsRefused F.identity F.File.Disk
+        (F.path folder.old) failed.failure failed.files (F.history folder.old)
         (F.history folder.new)) }
     ensures left { IsTrue F.honest → IsTrue F.File.honest → IfErr result (λ failed. IsNotCreated
-        F.identity F.File.Disk words.entry failed.files failed.ending (F.history folder.old)
+        F.identity F.File.Disk words.entry failed.files failed.failure (F.history folder.old)
         (F.history folder.new)) }
-    ensures fault { IfErr result (λ failed. IsFault failed.ending) }
 {
     folder.unguarded()?;
     let (files, world) = make_named(folder, words)?;
@@ -104,7 +102,7 @@ pub fn create<F: Folder>(
         Ok(()) => Ok((files, world)),
         Err(error) => Err(NotCreated {
             files: files.map(|file| Some(file)),
-            ending: ending_of_print(error),
+            failure: failure_of_print(error),
         }),
     }
 }
@@ -120,20 +118,19 @@ fn make_named<F: Folder>(
         (F.history folder.new)) }
     ensures cells { IfOk result (λ made. made.1.cells ≡ count_of words.entry) }
     ensures refused { IsTrue F.honest → IsTrue F.File.honest
-        → IfErr result (λ failed. IsOccupied failed.ending → IsRefused F.identity F.File.Disk
-        (F.path folder.old) failed.ending failed.files (F.history folder.old)
+        → IfErr result (λ failed. IsOccupied failed.failure → IsRefused F.identity F.File.Disk
+        (F.path folder.old) failed.failure failed.files (F.history folder.old)
         (F.history folder.new)) }
     ensures left { IsTrue F.honest → IsTrue F.File.honest → IfErr result (λ failed. AreLeft
         F.identity F.File.Disk words.entry failed.files (F.history folder.old)
         (F.history folder.new)) }
-    ensures fault { IfErr result (λ failed. IsFault failed.ending) }
 {
     let mut made = FourFiles::each(false);
     match make_world(folder, words, &mut made) {
         Ok(world) => Ok(world),
-        Err(NotCreated { files, ending }) => {
-            let ending = ending_unfinished(folder, made, &files, ending);
-            Err(NotCreated { files, ending })
+        Err(NotCreated { files, failure }) => {
+            let failure = failure_unfinished(folder, made, &files, failure);
+            Err(NotCreated { files, failure })
         }
     }
 }
@@ -150,23 +147,22 @@ fn make_world<F: Folder>(
         (F.history folder.new)) }
     ensures cells { IfOk result (λ made. made.1.cells ≡ count_of words.entry) }
     ensures refused { IsTrue F.honest → IsTrue F.File.honest
-        → IfErr result (λ failed. IsOccupied failed.ending → IsRefused F.identity F.File.Disk
-        (F.path folder.old) failed.ending failed.files (F.history folder.old)
+        → IfErr result (λ failed. IsOccupied failed.failure → IsRefused F.identity F.File.Disk
+        (F.path folder.old) failed.failure failed.files (F.history folder.old)
         (F.history folder.new)) }
     ensures left { IsTrue F.honest → IsTrue F.File.honest → IfErr result (λ failed. AreLeft
         F.identity F.File.Disk words.entry failed.files (F.history folder.old)
         (F.history folder.new)) }
-    ensures fault { IfErr result (λ failed. IsFault failed.ending) }
 {
     let mut files = no_files();
-    if let Err(ending) = take_files(folder, &mut files, made) {
-        return Err(NotCreated { files, ending });
+    if let Err(failure) = take_files(folder, &mut files, made) {
+        return Err(NotCreated { files, failure });
     }
     match make_in(folder.alloc(), folder.path(), words, all_of(files)) {
         Ok(world) => Ok(world),
-        Err((files, ending)) => Err(NotCreated {
+        Err((files, failure)) => Err(NotCreated {
             files: files.map(|file| Some(file)),
-            ending,
+            failure,
         }),
     }
 }
@@ -177,20 +173,19 @@ fn take_files<F: Folder>(
     folder: &mut F,
     files: &mut FourFiles<Option<F::File>>,
     made: &mut FourFiles<bool>,
-) -> Result<(), Ending>
+) -> Result<(), Failure>
     requires { files.old ≡ each_of None }
     ensures all { OnOk result (AreThere files.new) }
     ensures taken { IsTrue F.honest → IsTrue F.File.honest → OnOk result ((all : FourFiles F.File)
         → files.new ≡ mapped Some all → AreTaken F.File.Disk F.identity all
         (F.history folder.old) (F.history folder.new)) }
     ensures refused { IsTrue F.honest → IsTrue F.File.honest
-        → IfErr result (λ ending. IsOccupied ending
-        → IsRefused F.identity F.File.Disk (F.path folder.old) ending files.new
+        → IfErr result (λ failure. IsOccupied failure
+        → IsRefused F.identity F.File.Disk (F.path folder.old) failure files.new
         (F.history folder.old) (F.history folder.new)) }
     ensures left { IsTrue F.honest → IsTrue F.File.honest
         → OnErr result ((words : TheWords) → AreLeft F.identity F.File.Disk words files.new
         (F.history folder.old) (F.history folder.new)) }
-    ensures fault { IfErr result IsFault }
 {
     open_present(folder, files)?;
     complete(folder, files, made)?;
@@ -202,19 +197,18 @@ fn read_list<R: Files<File = File> + AllocGlobal>(
     rt: &R,
     list: &str,
     asked: Option<u32>,
-) -> Result<Listed, Ending>
+) -> Result<Listed, Failure>
     ensures listed { IfOk result (λ listed. (text : List ℕ) × Lists listed.words.items text) }
     ensures world { IfOk result (λ listed. IsWorld listed.words.items) }
     ensures count { IfOk result (λ listed. IfSome asked (λ cells.
         length listed.words.items ≡ cells)) }
-    ensures fault { IfErr result IsFault }
 {
     let text = blame(rt.alloc(), "", list, read_list_file(rt, list))?;
     match Listed::read(rt.alloc(), &text, asked) {
         Ok(listed) => Ok(listed),
         Err(why) => {
             let path = path_of(rt.alloc(), "", list)?;
-            Err(Ending::Unlisted(Unlisted { path, why }))
+            Err(Failure::Unlisted(Unlisted { path, why }))
         }
     }
 }
@@ -234,30 +228,28 @@ fn read_text<S: Read>(alloc: Global, list: &mut S) -> io::Result<Vec<u8>>
     read_forward(alloc, list, TEXT_BYTES)
 }
 
-// How the program ends if no world was made: a file that failed is named, and those that were made.
-fn ending_unfinished<F: Folder>(
+// The failure of a command that made no world. It names a file that failed, and those made.
+fn failure_unfinished<F: Folder>(
     folder: &F,
     made: FourFiles<bool>,
     files: &FourFiles<Option<F::File>>,
-    ending: Ending,
-) -> Ending
-    requires { IsFault ending }
-    ensures made { ending ≢ Ending.Fault Refusal.Device → IsUnfinished made ending result }
-    ensures device { IsTrue F.File.honest → ending ≡ Ending.Fault Refusal.Device
-        → (failed : TheEnding) × ReportsFailure (F.path folder.now)
+    failure: Failure,
+) -> Failure
+    ensures made { failure ≢ Failure.Refused Refusal.Device → IsUnfinished made failure result }
+    ensures device { IsTrue F.File.honest → failure ≡ Failure.Refused Refusal.Device
+        → (failed : TheFailure) × ReportsFailure (F.path folder.now)
         (first_failure (mapped (failure_there F.File.failure) files.now)) failed
         × IsUnfinished made failed result }
-    ensures same { IsOccupied result → result ≡ ending }
-    ensures fault { IsFault result }
+    ensures same { IsOccupied result → result ≡ failure }
 {
-    let ending = match ending {
-        Ending::Fault(Refusal::Device) => failure_of_present(folder, files),
-        ending => ending,
+    let failure = match failure {
+        Failure::Refused(Refusal::Device) => failure_of_present(folder, files),
+        failure => failure,
     };
-    let why = match ending {
-        Ending::Unreadable(file) => Why::File(file),
-        Ending::Fault(Refusal::NoMemory) => Why::NoMemory,
-        ending => return ending,
+    let why = match failure {
+        Failure::Unreadable(file) => Why::File(file),
+        Failure::Refused(Refusal::NoMemory) => Why::NoMemory,
+        failure => return failure,
     };
-    Ending::Unfinished(Unfinished { made, why })
+    Failure::Unfinished(Unfinished { made, why })
 }

@@ -2,12 +2,14 @@
 ghost use Rattle.std.specs.Prelude.{◌≡◌, Some, true, false};
 ghost use Rattle.std.specs.Process.{exit_status};
 ghost use Rattle.world_folder.specs.Ending.{IsStatusOf, IsStatusOfError, IsStatusOfRefusal};
-ghost use Rattle.world_folder.specs.Ending.{IsStatusOfServer, IsStatusOfUnfinished};
+ghost use Rattle.world_folder.specs.Ending.{IsStatusOfFailure, IsStatusOfServer};
+ghost use Rattle.world_folder.specs.Ending.{IsStatusOfUnfinished};
 ghost use Rattle.world_folder.specs.Ending.{listener_status, shortage_status, unwell_status};
 ghost use Rattle.world_folder.specs.Texts.{fault_text};
 
-use crate::ending::{Ending, ServerEnding, StreamFailure, Unwell};
+use crate::ending::{Ending, ServerEnding, Unwell};
 use crate::escaped::Escaped;
+use crate::failure::{Failure, StreamFailure};
 use crate::system_error::{is_shortage, refusal_of};
 use crate::unfinished::Unfinished;
 use std::fmt::{self, Display};
@@ -60,19 +62,32 @@ fn report_ending<R: Eprint>(rt: &R, statuses: Statuses, ending: Ending) -> ExitC
         Ending::Ran | Ending::HelpPrinted => ExitCode::SUCCESS,
         Ending::MayBeOlder => ExitCode::from(14),
         Ending::Mistaken => ExitCode::from(2),
-        Ending::Fault(refusal) => report_fault(rt, statuses, refusal, refusal),
-        Ending::Unreadable(file) => report_error(rt, statuses, file.error, file),
-        Ending::NoWorld(fault) => report_fault(rt, statuses, fault.refusal(), fault),
-        Ending::Occupied(file) => report_fault(rt, statuses, Refusal::NotEmpty, file),
-        Ending::Unfinished(unfinished) => report_unfinished(rt, statuses, unfinished),
-        Ending::Filled(folder) => report_fault(rt, statuses, Refusal::NotEmpty, folder),
-        Ending::Inside(folder) => report_fault(rt, statuses, Refusal::NotEmpty, folder),
-        Ending::Unlisted(file) => report_fault(rt, statuses, file.why.refusal(), file),
-        Ending::Stream(failure) => report_stream(rt, failure),
-        Ending::Server(ending) => report_server(rt, statuses, ending),
+        Ending::Failed(failure) => report_failure(rt, statuses, failure),
+        Ending::Stopped(ending) => report_server(rt, statuses, ending),
         Ending::Unwell(why) => unwell_status(why),
     }
 }
+
+// Prints why a command failed, and returns the exit status.
+fn report_failure<R: Eprint>(rt: &R, statuses: Statuses, failure: Failure) -> ExitCode
+    ensures { IsStatusOfFailure statuses failure (exit_status result) }
+{
+    match failure {
+        Failure::Refused(refusal) => report_fault(rt, statuses, refusal, refusal),
+        Failure::Unreadable(file) => report_error(rt, statuses, file.error, file),
+        Failure::NoWorld(fault) => report_fault(rt, statuses, fault.refusal(), fault),
+        Failure::Occupied(file) => report_fault(rt, statuses, Refusal::NotEmpty, file),
+        Failure::Unfinished(unfinished) => report_unfinished(rt, statuses, unfinished),
+        Failure::Filled(folder) => report_fault(rt, statuses, Refusal::NotEmpty, folder),
+        Failure::Inside(folder) => report_fault(rt, statuses, Refusal::NotEmpty, folder),
+        Failure::Unlisted(file) => report_fault(rt, statuses, file.why.refusal(), file),
+        Failure::Stream(failure) => report_stream(rt, failure),
+        Failure::NoPort(port) => report_error(rt, statuses, port.error, port),
+        Failure::NoThread => report_fault(rt, statuses, Refusal::NoMemory, NO_THREAD),
+    }
+}
+
+const NO_THREAD: &str = "there is no thread for the server";
 
 // The exit status of a command that checks a world which isn't well.
 fn unwell_status(why: Unwell) -> ExitCode
@@ -86,20 +101,16 @@ fn unwell_status(why: Unwell) -> ExitCode
     }
 }
 
-// Prints a server's fault, and returns the exit status.
+// Prints why a server isn't well, if no exit status of its own says so. It returns the exit status.
 fn report_server<R: Eprint>(rt: &R, statuses: Statuses, ending: ServerEnding) -> ExitCode
     ensures { IsStatusOfServer statuses ending (exit_status result) }
 {
     match ending {
-        ServerEnding::NoPort(port) => report_error(rt, statuses, port.error, port),
-        ServerEnding::NoThread => report_fault(rt, statuses, Refusal::NoMemory, NO_THREAD),
         ServerEnding::ListenerFailed => report_listener(rt, statuses),
         ServerEnding::ImagesDown => ExitCode::from(11),
         ServerEnding::LogDown => ExitCode::from(12),
     }
 }
-
-const NO_THREAD: &str = "there is no thread for the server";
 
 // Prints that a listener failed, if no exit status of its own says so.
 fn report_listener<R: Eprint>(rt: &R, statuses: Statuses) -> ExitCode

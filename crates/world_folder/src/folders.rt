@@ -8,17 +8,17 @@ ghost use Rattle.std.proofs.lemmas.Bool.{false≢true};
 ghost use Rattle.disk_model.specs.Disk.{Only};
 ghost use Rattle.world_folder.specs.History.{Act, Looked, Opened, Made, Locked, Read, Measured};
 ghost use Rattle.world_folder.specs.History.{Asked, AskedOwn, NamesSynced, OwnNameSynced};
-ghost use Rattle.world_folder.specs.Ending.{IsFault, ReportsOf};
+ghost use Rattle.world_folder.specs.Ending.{ReportsOf};
 ghost use Rattle.world_folder.specs.History.{FoundEmpty, FoundOutside, Removed};
 ghost use Rattle.world_folder.specs.History.{GuardRead, GuardPut};
 ghost use Rattle.world_folder.specs.History.{IsPrinted, IsWarned, IsUnopened};
 ghost use Rattle.world_folder.specs.declared.entry.Entry.{Entry as FileEntry};
 ghost use Rattle.world_folder.specs.declared.entry.Identity.{Identity as FileIdentity};
 
-use crate::ending::Ending;
 use crate::entry::Entry;
+use crate::failure::Failure;
 use crate::guard::Guard;
-use crate::opening::{blame, ending_for, path_of};
+use crate::opening::{blame, failure_for, path_of};
 use crate::source_file::SourceFile;
 use disk_model::{Disk, WorldFile};
 use file_disk::{FileDisk, LockState};
@@ -83,20 +83,18 @@ pub trait Source {
         path_of(self.alloc(), self.path(), name)
     }
 
-    /// How the program ends if the file of this name can't be used, and why.
-    fn ending_for(&self, name: &str, error: io::Error) -> Ending
+    /// The failure of a command that can't use the file of this name, and why.
+    fn failure_for(&self, name: &str, error: io::Error) -> Failure
         ensures reports { ReportsOf (path self.now) name.now error result }
-        ensures fault { IsFault result }
     {
-        ending_for(self.alloc(), self.path(), name, error)
+        failure_for(self.alloc(), self.path(), name, error)
     }
 
-    /// The answer of a call. After an error the program ends, and names this file.
-    fn blame<T>(&self, name: &str, answer: io::Result<T>) -> Result<T, Ending>
+    /// The answer of a call. An error is a failure that names this file.
+    fn blame<T>(&self, name: &str, answer: io::Result<T>) -> Result<T, Failure>
         ensures ok { IfOk answer (λ value. result ≡ Ok value) }
         ensures fails { IfErr answer (λ error.
             IsErrAnd result (ReportsOf (path self.now) name.now error)) }
-        ensures fault { IfErr result IsFault }
     {
         blame(self.alloc(), self.path(), name, answer)
     }
@@ -111,11 +109,10 @@ pub trait Source {
         ensures path { path self.new ≡ path self.old };
 
     /// Reads the guard of the world, if it has one.
-    fn read_guard(&mut self) -> Result<Option<Guard>, Ending>
+    fn read_guard(&mut self) -> Result<Option<Guard>, Failure>
         ensures read { IsTrue honest
             → IfOk result (λ guard. history self.new ≡ GuardRead guard ∷ history self.old) }
         ensures failed { IsTrue honest → OnErr result (history self.new ≡ history self.old) }
-        ensures fault { IfErr result IsFault }
         ensures path { path self.new ≡ path self.old };
 
     /// How many seconds ago the guard was written or touched, if there is one.
@@ -226,8 +223,7 @@ pub trait Folder: Source {
             → IfOk result (λ disk. Only (Self.File.content disk) (Self.File.may_leave disk)) };
 
     /// Refuses to make a world in a folder that has the guard of another one.
-    fn unguarded(&self) -> Result<(), Ending>
-        ensures fault { IfErr result IsFault };
+    fn unguarded(&self) -> Result<(), Failure>;
 
     /// Puts a guard into a folder that has none, whole and durably. If that fails, it has none.
     fn put_guard(&mut self, guard: &Guard) -> io::Result<()>

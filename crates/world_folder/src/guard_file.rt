@@ -1,10 +1,10 @@
 //! The guard of a world in a folder of the system.
-ghost use Rattle.std.specs.Prelude.{◌≡◌, false, IfErr};
-ghost use Rattle.world_folder.specs.Ending.{IsFault};
+ghost use Rattle.std.specs.Prelude.{◌≡◌, ◌≢◌, false};
 
-use crate::ending::{Ending, Occupied};
+use crate::ending::Ending;
+use crate::failure::{Failure, Occupied};
 use crate::guard::{GUARD, GUARD_BYTES, Guard, NEW_GUARD};
-use crate::opening::{blame, ending_for, path_of};
+use crate::opening::{blame, failure_for, path_of};
 use crate::system_folder::OWNER_ALONE;
 use disk_model::{IMAGE_A, IMAGE_B, LOG_A, LOG_B};
 use std::fs::{self, File, Files, OpenOptions};
@@ -25,9 +25,7 @@ const NO_GUARD: &str = "it isn't the guard of a world: remove it to go on withou
 pub fn read_guard<R: Files<File = File> + AllocGlobal>(
     rt: &R,
     folder: &str,
-) -> Result<Option<Guard>, Ending>
-    ensures fault { IfErr result IsFault }
-{
+) -> Result<Option<Guard>, Failure> {
     let path = path_of(rt.alloc(), folder, GUARD)?;
     let bytes = match guard_bytes(rt, path.as_str()) {
         Err(error) if error.kind() != ErrorKind::NotFound => guard_bytes(rt, path.as_str()),
@@ -35,11 +33,11 @@ pub fn read_guard<R: Files<File = File> + AllocGlobal>(
     };
     match bytes {
         Err(error) if error.kind() == ErrorKind::NotFound => Ok(None),
-        Err(error) if has_files(rt, folder) => Err(ending_for(rt.alloc(), folder, GUARD, error)),
+        Err(error) if has_files(rt, folder) => Err(failure_for(rt.alloc(), folder, GUARD, error)),
         Err(_) => Ok(None),
         Ok(bytes) => match Guard::read(&bytes) {
             Some(guard) => Ok(Some(guard)),
-            None => Err(ending_for(rt.alloc(), folder, GUARD, io::Error::other(NO_GUARD))),
+            None => Err(failure_for(rt.alloc(), folder, GUARD, io::Error::other(NO_GUARD))),
         },
     }
 }
@@ -134,12 +132,10 @@ pub fn guard_age<R: Files<File = File> + Clock + AllocGlobal>(rt: &R, folder: &s
 }
 
 /// Refuses to make a world in a folder that has the guard of another one.
-pub fn unguarded<R: Files<File = File> + AllocGlobal>(rt: &R, folder: &str) -> Result<(), Ending>
-    ensures fault { IfErr result IsFault }
-{
+pub fn unguarded<R: Files<File = File> + AllocGlobal>(rt: &R, folder: &str) -> Result<(), Failure> {
     let path = path_of(rt.alloc(), folder, GUARD)?;
     match fs::symlink_metadata(rt, path.as_path()) {
-        Ok(_) => Err(Ending::Occupied(Occupied { path })),
+        Ok(_) => Err(Failure::Occupied(Occupied { path })),
         Err(_) => Ok(()),
     }
 }
@@ -160,7 +156,7 @@ pub fn guarded<R: Files<File = File> + Clock + AllocGlobal>(
     made: Ending,
 ) -> Ending
     ensures unasked { guards ≡ false → result ≡ made }
-    ensures unmade { IsFault made → result ≡ made }
+    ensures unmade { made ≢ Ending.Ran → result ≡ made }
 {
     match (guards, made) {
         (true, Ending::Ran) => {

@@ -7,11 +7,10 @@ ghost use Rattle.file_readers.specs.Reading.{AreFilesRead};
 ghost use Rattle.engine.specs.Runs.{SomeGrew};
 ghost use Rattle.world_start.specs.Fresh.{AreClosed};
 ghost use Rattle.world_start.specs.Opening.{HasFaulted};
-ghost use Rattle.world_folder.specs.Ending.{IsFault};
 ghost use Rattle.world_folder.specs.NewWorld.{AreFirst, count_of, IsFirstOpen, ReportsUnmade};
 ghost use Rattle.world_folder.specs.NewWorld.{IsMadeOf, IsUnmade, AsksOthers, OthersStay};
 
-use crate::ending::{Ending, Occupied};
+use crate::failure::{Failure, Occupied};
 use crate::opening::path_of;
 use disk_model::{Disk, FourFiles, IMAGE_A, IMAGE_B, LOG_A, LOG_B};
 use file_readers::read_files;
@@ -76,7 +75,7 @@ pub fn make_in<D: Disk>(
     folder: &str,
     words: FirstWords<'_>,
     files: FourFiles<D>,
-) -> Result<(FourFiles<D>, Made), (FourFiles<D>, Ending)>
+) -> Result<(FourFiles<D>, Made), (FourFiles<D>, Failure)>
     requires { AreFirst words }
     ensures made { IsTrue D.honest → IfOk result (λ made.
         IsMadeOf D.Disk words.entry files made.0) }
@@ -85,18 +84,17 @@ pub fn make_in<D: Disk>(
         IsUnmade D.Disk folder.now files words.entry unmade.1 unmade.0) }
     ensures asked { IfOk result (λ made. AsksOthers D.called words.entry files made.0) }
     ensures unmade_asked { IfErr result (λ unmade. AsksOthers D.called words.entry files unmade.0) }
-    ensures device { IfErr result (λ unmade. unmade.1 ≡ Ending.Fault Refusal.Device
+    ensures device { IfErr result (λ unmade. unmade.1 ≡ Failure.Refused Refusal.Device
         → SomeGrew (fault_counts D.faults files) (fault_counts D.faults unmade.0)) }
-    ensures fault { IfErr result (λ unmade. IsFault unmade.1) }
 {
     let mut files = files;
     let bytes = match closed_bytes(alloc, folder, &mut files) {
         Ok(bytes) => bytes,
-        Err(ending) => return Err((files, ending)),
+        Err(failure) => return Err((files, failure)),
     };
     match write_first(alloc, words, bytes, files) {
         Ok(files) => Ok((files, Made::of(words))),
-        Err((files, refusal)) => Err((files, Ending::Fault(refusal))),
+        Err((files, refusal)) => Err((files, Failure::Refused(refusal))),
     }
 }
 
@@ -116,11 +114,10 @@ fn write_first<D: Disk>(
         bytes.log_b.items }
     ensures made { IsTrue D.honest → IfOk result (λ made. IsMadeOf D.Disk words.entry files made) }
     ensures unmade { IsTrue D.honest → IfErr result (λ unmade. (folder : List ℕ)
-        → IsUnmade D.Disk folder files words.entry (Ending.Fault unmade.1) unmade.0) }
+        → IsUnmade D.Disk folder files words.entry (Failure.Refused unmade.1) unmade.0) }
     ensures others { IfOk result (λ made. OthersStay words.entry files made) }
     ensures unmade_others { IfErr result (λ unmade. OthersStay words.entry files unmade.0) }
     ensures device { IfErr result (λ unmade. HasFaulted D.faults files unmade.0 unmade.1) }
-    ensures fault { IfErr result (λ unmade. IsFault (Ending.Fault unmade.1)) }
 {
     match words {
         FirstWords::Zeros(cells) => {
@@ -137,13 +134,13 @@ fn write_first<D: Disk>(
     }
 }
 
-// Reads four files, and returns their bytes. If one of the files isn't closed, the program ends so,
-// and names the first such file.
+// Reads four files, and returns their bytes. If one of the files isn't closed, it fails, and names
+// the first such file.
 fn closed_bytes<D: Disk>(
     alloc: Global,
     folder: &str,
     files: &mut FourFiles<D>,
-) -> Result<FourFiles<Vec<u8>>, Ending>
+) -> Result<FourFiles<Vec<u8>>, Failure>
     ensures read { IsTrue D.honest → IfOk result (λ read. AreFilesRead D.content files.old
         read.image_a.items read.image_b.items read.log_a.items read.log_b.items) }
     ensures closed { IfOk result (λ read. AreClosed
@@ -155,21 +152,20 @@ fn closed_bytes<D: Disk>(
         files.old files.new }
     ensures kept { IsTrue D.honest
         → EachFile files.old files.new (KeepsFile D.Disk) }
-    ensures device { result ≡ Err (Ending.Fault Refusal.Device)
+    ensures device { result ≡ Err (Failure.Refused Refusal.Device)
         → SomeGrew (fault_counts D.faults files.old) (fault_counts D.faults files.new) }
     ensures no_fault { OnOk result
         (fault_counts D.faults files.new ≡ fault_counts D.faults files.old) }
-    ensures fault { IfErr result IsFault }
 {
     let bytes = match read_files(alloc, files) {
         Ok(bytes) => bytes,
-        Err(refusal) => return Err(Ending::Fault(refusal)),
+        Err(refusal) => return Err(Failure::Refused(refusal)),
     };
     if are_closed(alloc, &bytes) {
         return Ok(bytes);
     }
     let path = path_of(alloc, folder, first_open(alloc, &bytes))?;
-    Err(Ending::Occupied(Occupied { path }))
+    Err(Failure::Occupied(Occupied { path }))
 }
 
 // The name of the first file that isn't closed, of four of which one isn't.

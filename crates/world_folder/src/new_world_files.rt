@@ -9,10 +9,10 @@ ghost use Rattle.world_folder.specs.NewWorldFiles.{KeepsThere, IsKept, IsUnwritt
 ghost use Rattle.world_folder.specs.NewWorldFiles.{AreMadeIfAbsent, AreCompleted, AreThere};
 ghost use Rattle.world_folder.specs.NewWorldFiles.{IsMadeIfAbsent};
 ghost use Rattle.disk_model.specs.FourFiles.{with_value};
-ghost use Rattle.world_folder.specs.Ending.{IsFault, NamesFile};
+ghost use Rattle.world_folder.specs.Ending.{NamesFile};
 ghost use Rattle.world_folder.specs.History.{Made, IsTakenInPart};
 
-use crate::ending::{Ending, Occupied};
+use crate::failure::{Failure, Occupied};
 use crate::folders::Folder;
 use crate::heads::{IMAGE_HEAD, SEGMENT_HEAD};
 use crate::own_file::take_own;
@@ -27,21 +27,20 @@ use world_actions::Refusal;
 fn look_for_world<F: Folder>(
     folder: &F,
     present: &mut FourFiles<Option<F::File>>,
-) -> Result<(), Ending>
+) -> Result<(), Failure>
     ensures none { IsTrue F.File.honest → OnOk result (NoneIsOpen F.File.content present.old) }
     ensures reported { IsTrue F.File.honest
         → IfErr result (ReportsOpen F.File.content (F.path folder.now) present.old) }
     ensures kept { IsTrue F.File.honest
         → EachFile present.old present.new (KeepsThere F.File.Disk) }
-    ensures fault { IfErr result IsFault }
 {
     match first_open(present) {
         Ok(None) => Ok(()),
         Ok(Some(name)) => {
             let path = folder.path_of(name)?;
-            Err(Ending::Occupied(Occupied { path }))
+            Err(Failure::Occupied(Occupied { path }))
         }
-        Err(refusal) => Err(Ending::Fault(refusal)),
+        Err(refusal) => Err(Failure::Refused(refusal)),
     }
 }
 
@@ -104,14 +103,13 @@ fn make_absent<F: Folder>(
     folder: &mut F,
     files: &mut FourFiles<Option<F::File>>,
     made: &mut FourFiles<bool>,
-) -> Result<(), Ending>
+) -> Result<(), Failure>
     ensures made { IsTrue F.honest
         → AreMadeIfAbsent files.old files.new (F.history folder.old) (F.history folder.new) }
     ensures kept { IsTrue F.honest → IsTrue F.File.honest
         → EachFile files.old files.new (IsKept F.File.Disk) }
     ensures all { OnOk result (AreThere files.new) }
-    ensures other { IfErr result (λ ending. ¬ IsOccupied ending) }
-    ensures fault { IfErr result IsFault }
+    ensures other { IfErr result (λ failure. ¬ IsOccupied failure) }
 {
     make_if_absent(folder, WorldFile::ImageA, &mut files.image_a, made)?;
     make_if_absent(folder, WorldFile::ImageB, &mut files.image_b, made)?;
@@ -124,7 +122,7 @@ fn make_if_absent<F: Folder>(
     file: WorldFile,
     there: &mut Option<F::File>,
     made: &mut FourFiles<bool>,
-) -> Result<(), Ending>
+) -> Result<(), Failure>
     ensures acts { IsTrue F.honest → IsMadeIfAbsent file there.old there.new
         (F.history folder.old) (F.history folder.new) }
     ensures kept { IsTrue F.honest → IsTrue F.File.honest
@@ -133,8 +131,7 @@ fn make_if_absent<F: Folder>(
     ensures none_made { IfSome there.old (λ _. made.new ≡ made.old) }
     ensures made { IfNone there.old (OnOk result (made.new ≡ with_value file true made.old)) }
     ensures some { OnOk result (IsSome there.new) }
-    ensures other { IfErr result (λ ending. ¬ IsOccupied ending) }
-    ensures fault { IfErr result IsFault }
+    ensures other { IfErr result (λ failure. ¬ IsOccupied failure) }
 {
     if there.is_none() {
         *there = Some(make_empty(folder, file, made)?);
@@ -147,7 +144,7 @@ fn make_empty<F: Folder>(
     folder: &mut F,
     file: WorldFile,
     made: &mut FourFiles<bool>,
-) -> Result<F::File, Ending>
+) -> Result<F::File, Failure>
     ensures made_whole { IsTrue F.honest → IfOk result (λ disk. IsMadeIfAbsent file None (Some disk)
         (F.history folder.old) (F.history folder.new)) }
     ensures made_part { IsTrue F.honest → OnErr result
@@ -155,9 +152,8 @@ fn make_empty<F: Folder>(
     ensures unwritten { IsTrue F.honest → IsTrue F.File.honest
         → IfOk result (IsUnwritten F.File.Disk) }
     ensures made { OnOk result (made.new ≡ with_value file true made.old) }
-    ensures other { IfErr result (λ ending. ¬ IsOccupied ending) }
+    ensures other { IfErr result (λ failure. ¬ IsOccupied failure) }
     ensures named { IfErr result (NamesFile (F.path folder.old) file) }
-    ensures fault { IfErr result IsFault }
 {
     let handle = made_alone(folder.make(file));
     let handle = folder.blame(file.name(), handle)?;
@@ -187,19 +183,18 @@ pub fn complete<F: Folder>(
     folder: &mut F,
     files: &mut FourFiles<Option<F::File>>,
     made: &mut FourFiles<bool>,
-) -> Result<(), Ending>
+) -> Result<(), Failure>
     ensures completed { IsTrue F.honest → IsTrue F.File.honest → AreCompleted F.File.Disk
         files.old files.new (F.history folder.old) (F.history folder.new) }
     ensures all { OnOk result (AreThere files.new) }
-    ensures none_made { IfErr result (λ ending. IsOccupied ending → made.new ≡ made.old) }
-    ensures no_act { IfErr result (λ ending. IsOccupied ending → folder.new ≡ folder.old) }
+    ensures none_made { IfErr result (λ failure. IsOccupied failure → made.new ≡ made.old) }
+    ensures no_act { IfErr result (λ failure. IsOccupied failure → folder.new ≡ folder.old) }
     ensures none_open { IsTrue F.File.honest
         → OnOk result (NoneIsOpen F.File.content files.old) }
-    ensures reported { IsTrue F.File.honest → IfErr result (λ ending. IsOccupied ending
-        → ReportsOpen F.File.content (F.path folder.old) files.old ending) }
-    ensures occupied { IsTrue F.File.honest → IfErr result (λ ending. IsOccupied ending
+    ensures reported { IsTrue F.File.honest → IfErr result (λ failure. IsOccupied failure
+        → ReportsOpen F.File.content (F.path folder.old) files.old failure) }
+    ensures occupied { IsTrue F.File.honest → IfErr result (λ failure. IsOccupied failure
         → EachFile files.old files.new (KeepsThere F.File.Disk)) }
-    ensures fault { IfErr result IsFault }
 {
     look_for_world(folder, files)?;
     make_absent(folder, files, made)

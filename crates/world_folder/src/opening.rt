@@ -1,15 +1,15 @@
 ghost use Rattle.std.specs.Prelude.{◌≡◌, ◌∷◌, Some, Ok, IsTrue, IfOk, IfErr, OnOk, IsErrAnd};
 ghost use Rattle.std.specs.Path.{path_buf_bytes, path_join};
 ghost use Rattle.disk_model.specs.FourFiles.{EachFile, mapped};
-ghost use Rattle.world_folder.specs.Ending.{IsFault, ReportsOf, NamesFile, ReportsFailure};
+ghost use Rattle.world_folder.specs.Ending.{ReportsOf, NamesFile, ReportsFailure};
 ghost use Rattle.world_folder.specs.NewWorldFiles.{IsOccupied};
 ghost use Rattle.world_folder.specs.Failing.{failure_there, first_failure};
 ghost use Rattle.world_folder.specs.History.{IsSyncedInPart, NamesSynced, synced};
 ghost use Rattle.world_folder.specs.Left.{KeepsLeft};
 ghost use Rattle.world_folder.specs.OwnFile.{AreApart, AreHeld, AreOwn, IsOwn};
 
-use crate::ending::Ending;
 use crate::entry::Identity;
+use crate::failure::Failure;
 use crate::folders::{Folder, WorldDisk};
 use crate::own_file::{OwnFile, are_apart, open_own};
 use crate::system_error::Reason;
@@ -36,31 +36,29 @@ impl fmt::Display for Unreadable {
 }
 
 /// Makes the names of a folder's files durable, and its own.
-pub fn sync_names<F: Folder>(folder: &mut F) -> Result<(), Ending>
+pub fn sync_names<F: Folder>(folder: &mut F) -> Result<(), Failure>
     ensures synced { IsTrue F.honest
         → OnOk result (F.history folder.new ≡ synced (F.history folder.old)) }
     ensures part { IsTrue F.honest → IsSyncedInPart (F.history folder.old) (F.history folder.new) }
     ensures left { IsTrue F.honest → KeepsLeft (F.history folder.old) (F.history folder.new) }
-    ensures other { IfErr result (λ ending. ¬ IsOccupied ending) }
-    ensures fault { IfErr result IsFault }
+    ensures other { IfErr result (λ failure. ¬ IsOccupied failure) }
 {
     let named = folder.sync_names();
     folder.blame("", named)?;
     match folder.sync_own_name() {
         Ok(()) => Ok(()),
-        Err(error) => Err(folder.ending_for(ABOVE, error)),
+        Err(error) => Err(folder.failure_for(ABOVE, error)),
     }
 }
 
 /// Opens the four files of a folder to serve the world in them. It makes none, and syncs the
 /// folder. It refuses a symbolic link, a file with a second name, and one file twice. A writer of a
 /// world holds a lock on its image.a as long as the file is open, so no two programs write it.
-pub fn open_files<F: Folder>(folder: &mut F) -> Result<FourFiles<F::File>, Ending>
+pub fn open_files<F: Folder>(folder: &mut F) -> Result<FourFiles<F::File>, Failure>
     ensures held { IsTrue F.honest
         → IfOk result (λ files.
         AreHeld F.identity F.File.content files (F.history folder.old)
         (F.history folder.new)) }
-    ensures fault { IfErr result IsFault }
 {
     let files = open_each(folder)?;
     let settled = settle(folder, &identities_of(&files));
@@ -80,14 +78,13 @@ fn settle<F: Folder>(folder: &mut F, files: &FourFiles<Option<Identity>>) -> io:
 
 // Opens each file by its own name, image.a first: no two programs then hold a part of
 // the files each.
-fn open_each<F: Folder>(folder: &mut F) -> Result<FourFiles<OwnFile<F::File>>, Ending>
+fn open_each<F: Folder>(folder: &mut F) -> Result<FourFiles<OwnFile<F::File>>, Failure>
     ensures own { IsTrue F.honest → IfOk result (λ files.
         AreOwn (λ own. F.identity own.disk) (λ own. F.File.content own.disk) files
         (F.history folder.old) (F.history folder.new)) }
     ensures identities { IsTrue F.honest
         → IfOk result (λ files.
         EachFile files files (λ own _. own.identity ≡ F.identity own.disk)) }
-    ensures fault { IfErr result IsFault }
 {
     Ok(FourFiles {
         image_a: open_named(folder, WorldFile::ImageA)?,
@@ -97,14 +94,13 @@ fn open_each<F: Folder>(folder: &mut F) -> Result<FourFiles<OwnFile<F::File>>, E
     })
 }
 
-fn open_named<F: Folder>(folder: &mut F, file: WorldFile) -> Result<OwnFile<F::File>, Ending>
+fn open_named<F: Folder>(folder: &mut F, file: WorldFile) -> Result<OwnFile<F::File>, Failure>
     ensures own { IsTrue F.honest
         → IfOk result (λ own.
         IsOwn file (F.identity own.disk) (F.File.content own.disk) (F.history folder.old)
         (F.history folder.new)) }
     ensures identity { IsTrue F.honest → IfOk result (λ own. own.identity ≡ F.identity own.disk) }
     ensures named { IfErr result (NamesFile (F.path folder.old) file) }
-    ensures fault { IfErr result IsFault }
 {
     let own = open_own(folder, file);
     folder.blame(file.name(), own)
@@ -122,26 +118,29 @@ fn disks_of<D>(files: FourFiles<OwnFile<D>>) -> FourFiles<D>
     files.map(|OwnFile { disk, .. }| disk)
 }
 
-/// The answer of a call. After an error the program ends, and names this file in a folder.
-pub fn blame<T>(alloc: Global, folder: &str, name: &str, answer: io::Result<T>) -> Result<T, Ending>
+/// The answer of a call. An error is a failure that names this file in a folder.
+pub fn blame<T>(
+    alloc: Global,
+    folder: &str,
+    name: &str,
+    answer: io::Result<T>,
+) -> Result<T, Failure>
     ensures ok { IfOk answer (λ value. result ≡ Ok value) }
     ensures fails { IfErr answer (λ error. IsErrAnd result (ReportsOf folder.now name.now error)) }
-    ensures fault { IfErr result IsFault }
 {
     match answer {
         Ok(value) => Ok(value),
-        Err(error) => Err(ending_for(alloc, folder, name, error)),
+        Err(error) => Err(failure_for(alloc, folder, name, error)),
     }
 }
 
-/// How the program ends if the file of this name in a folder can't be used, and why.
-pub fn ending_for(alloc: Global, folder: &str, name: &str, error: io::Error) -> Ending
+/// The failure of a command that can't use the file of this name in a folder, and why.
+pub fn failure_for(alloc: Global, folder: &str, name: &str, error: io::Error) -> Failure
     ensures reports { ReportsOf folder.now name.now error result }
-    ensures fault { IsFault result }
 {
     match path_of(alloc, folder, name) {
-        Ok(path) => Ending::Unreadable(Unreadable { path, error }),
-        Err(_) => Ending::Fault(Refusal::NoMemory),
+        Ok(path) => Failure::Unreadable(Unreadable { path, error }),
+        Err(_) => Failure::Refused(Refusal::NoMemory),
     }
 }
 
@@ -152,13 +151,12 @@ pub fn path_of(alloc: Global, folder: &str, name: &str) -> Result<PathBuf, Alloc
     Path::new(folder).join(alloc, name)
 }
 
-/// How the program ends if a call of one of a folder's files failed: the first one is named.
-pub fn failure_of<F: Folder>(folder: &F, files: &FourFiles<F::File>) -> Ending
+/// The failure of a command after a failed call of a folder's files: the first one is named.
+pub fn failure_of<F: Folder>(folder: &F, files: &FourFiles<F::File>) -> Failure
     ensures first { IsTrue F.File.honest
         → ReportsFailure (F.path folder.now)
         (first_failure (mapped F.File.failure files.now)) result }
     ensures other { ¬ IsOccupied result }
-    ensures fault { IsFault result }
 {
     let errors = FourFiles {
         image_a: files.image_a.last_failure(),
@@ -166,16 +164,15 @@ pub fn failure_of<F: Folder>(folder: &F, files: &FourFiles<F::File>) -> Ending
         log_a: files.log_a.last_failure(),
         log_b: files.log_b.last_failure(),
     };
-    ending_of_first(folder, errors)
+    failure_of_first(folder, errors)
 }
 
-/// How the program ends if a call failed of one of those files that are there.
-pub fn failure_of_present<F: Folder>(folder: &F, files: &FourFiles<Option<F::File>>) -> Ending
+/// The failure of a command after a failed call of one of those files that are there.
+pub fn failure_of_present<F: Folder>(folder: &F, files: &FourFiles<Option<F::File>>) -> Failure
     ensures first { IsTrue F.File.honest
         → ReportsFailure (F.path folder.now)
         (first_failure (mapped (failure_there F.File.failure) files.now)) result }
     ensures other { ¬ IsOccupied result }
-    ensures fault { IsFault result }
 {
     let errors = FourFiles {
         image_a: failure_in(&files.image_a),
@@ -183,18 +180,17 @@ pub fn failure_of_present<F: Folder>(folder: &F, files: &FourFiles<Option<F::Fil
         log_a: failure_in(&files.log_a),
         log_b: failure_in(&files.log_b),
     };
-    ending_of_first(folder, errors)
+    failure_of_first(folder, errors)
 }
 
-// How the program ends if calls of a folder's files failed so: the first file is named.
-fn ending_of_first<F: Folder>(folder: &F, errors: FourFiles<Option<io::Error>>) -> Ending
+// The failure of a command after these errors of a folder's files: the first file is named.
+fn failure_of_first<F: Folder>(folder: &F, errors: FourFiles<Option<io::Error>>) -> Failure
     ensures first { ReportsFailure (F.path folder.now) (first_failure errors) result }
     ensures other { ¬ IsOccupied result }
-    ensures fault { IsFault result }
 {
     match first_failure(errors) {
-        Some((file, error)) => folder.ending_for(file.name(), error),
-        None => Ending::Fault(Refusal::Device),
+        Some((file, error)) => folder.failure_for(file.name(), error),
+        None => Failure::Refused(Refusal::Device),
     }
 }
 

@@ -1,13 +1,13 @@
 //! The files of a folder that are there before a world is made in it.
 ghost use Rattle.std.specs.Prelude.{◌≡◌, None, IsTrue, IfOk, IfErr, OnOk, OnErr, option_map};
 ghost use Rattle.disk_model.specs.FourFiles.{each_of, mapped};
-ghost use Rattle.world_folder.specs.Ending.{IsFault, NamesFile};
+ghost use Rattle.world_folder.specs.Ending.{NamesFile};
 ghost use Rattle.world_folder.specs.NewWorldFiles.{AreFound, AreFoundInPart, EachSynced};
 ghost use Rattle.world_folder.specs.NewWorldFiles.{IsOccupied, IsSyncedIfThere};
 ghost use Rattle.world_folder.specs.OwnFile.{AreLookedFor, IsOpenedInPart, IsOwnIfThere};
 
-use crate::ending::Ending;
 use crate::entry::Identity;
+use crate::failure::Failure;
 use crate::folders::Folder;
 use crate::own_file::{OwnFile, are_apart, find_own};
 use disk_model::{FourFiles, WorldFile};
@@ -24,7 +24,7 @@ pub fn no_files<D>() -> FourFiles<Option<D>>
 pub fn open_present<F: Folder>(
     folder: &mut F,
     present: &mut FourFiles<Option<F::File>>,
-) -> Result<(), Ending>
+) -> Result<(), Failure>
     requires { present.old ≡ each_of None }
     ensures found { IsTrue F.honest → OnOk result
         (AreFound F.identity present.new (F.history folder.old) (F.history folder.new)) }
@@ -32,8 +32,7 @@ pub fn open_present<F: Folder>(
         (AreFoundInPart F.identity present.new (F.history folder.old) (F.history folder.new)) }
     ensures synced { IsTrue F.honest → IsTrue F.File.honest
         → OnOk result (EachSynced F.File.Disk present.new) }
-    ensures other { IfErr result (λ ending. ¬ IsOccupied ending) }
-    ensures fault { IfErr result IsFault }
+    ensures other { IfErr result (λ failure. ¬ IsOccupied failure) }
     ensures path { F.path folder.new ≡ F.path folder.old }
 {
     let identities = find_each(folder, present)?;
@@ -45,7 +44,7 @@ pub fn open_present<F: Folder>(
 fn find_each<F: Folder>(
     folder: &mut F,
     present: &mut FourFiles<Option<F::File>>,
-) -> Result<FourFiles<Option<Identity>>, Ending>
+) -> Result<FourFiles<Option<Identity>>, Failure>
     requires { present.old ≡ each_of None }
     ensures found { IsTrue F.honest → OnOk result
         (AreLookedFor F.identity present.new (F.history folder.old) (F.history folder.new)) }
@@ -55,8 +54,7 @@ fn find_each<F: Folder>(
         → IfOk result (λ found. found ≡ mapped (option_map F.identity) present.new) }
     ensures synced { IsTrue F.honest → IsTrue F.File.honest
         → OnOk result (EachSynced F.File.Disk present.new) }
-    ensures other { IfErr result (λ ending. ¬ IsOccupied ending) }
-    ensures fault { IfErr result IsFault }
+    ensures other { IfErr result (λ failure. ¬ IsOccupied failure) }
     ensures path { F.path folder.new ≡ F.path folder.old }
 {
     Ok(FourFiles {
@@ -72,7 +70,7 @@ fn find_named<F: Folder>(
     folder: &mut F,
     file: WorldFile,
     present: &mut Option<F::File>,
-) -> Result<Option<Identity>, Ending>
+) -> Result<Option<Identity>, Failure>
     requires { present.old ≡ None }
     ensures found { IsTrue F.honest → OnOk result (IsOwnIfThere F.identity file present.new
         (F.history folder.old) (F.history folder.new)) }
@@ -84,8 +82,7 @@ fn find_named<F: Folder>(
     ensures synced { IsTrue F.honest → IsTrue F.File.honest
         → OnOk result (IsSyncedIfThere F.File.Disk present.new) }
     ensures named { IfErr result (NamesFile (F.path folder.old) file) }
-    ensures other { IfErr result (λ ending. ¬ IsOccupied ending) }
-    ensures fault { IfErr result IsFault }
+    ensures other { IfErr result (λ failure. ¬ IsOccupied failure) }
     ensures path { F.path folder.new ≡ F.path folder.old }
 {
     let found = find_own(folder, file);

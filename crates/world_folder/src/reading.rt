@@ -2,11 +2,11 @@
 //! their formats go.
 ghost use Rattle.std.specs.Prelude.{◌≡◌, Ok, IsTrue, IfOk, IfErr, OnErr, IfSome, IsErr, IsErrAnd};
 ghost use Rattle.world_folder.specs.Fault.{AreRead};
-ghost use Rattle.world_folder.specs.Ending.{IsFault, ReportsOfFirst};
+ghost use Rattle.world_folder.specs.Ending.{ReportsOfFirst};
 ghost use Rattle.world_folder.specs.History.{AreInTurn};
 ghost use Rattle.world_folder.specs.ReadIn.{IsFileRead, IsReadIn};
 
-use crate::ending::Ending;
+use crate::failure::Failure;
 use crate::folders::{Reading, Source, WorldDisk};
 use crate::system_error::error_of;
 use disk_model::{Disk, FourFiles, IMAGE_A, IMAGE_B, LOG_A, LOG_B, WorldFile};
@@ -72,10 +72,9 @@ pub fn explain<D: WorldDisk, T>(disk: &mut D, answer: Result<T, Refusal>) -> io:
 pub fn all_read<F: Source>(
     folder: &F,
     read: FourFiles<io::Result<Vec<u8>>>,
-) -> Result<FourFiles<Vec<u8>>, Ending>
+) -> Result<FourFiles<Vec<u8>>, Failure>
     ensures read { IfOk result (AreRead read) }
     ensures unread { IfErr result (ReportsOfFirst (F.path folder.now) read) }
-    ensures fault { IfErr result IsFault }
 {
     Ok(FourFiles {
         image_a: folder.blame(IMAGE_A, read.image_a)?,

@@ -3,8 +3,8 @@ ghost use Rattle.std.specs.Prelude.{◌≡◌, false, []};
 ghost use Rattle.std.proofs.lemmas.Bool.{false≢true};
 ghost use Rattle.world_folder.specs.OwnFile.{no_entry, no_identity};
 
-use crate::ending::Ending;
 use crate::entry::Entry;
+use crate::failure::Failure;
 use crate::folders::{Folder, Reading, Source};
 use crate::guard::Guard;
 use crate::guard_file::{self, remove_guard};
@@ -80,7 +80,7 @@ impl<R: Files<File = File> + Clock + Print + Eprint + AllocGlobal> Source for Sy
         }))
     }
 
-    fn read_guard(&mut self) -> Result<Option<Guard>, Ending> {
+    fn read_guard(&mut self) -> Result<Option<Guard>, Failure> {
         guard_file::read_guard(self.rt, self.path)
     }
 
@@ -166,7 +166,7 @@ impl<R: Files<File = File> + Clock + Print + Eprint + AllocGlobal> Folder for Sy
         FileDisk::open(handle)
     }
 
-    fn unguarded(&self) -> Result<(), Ending> {
+    fn unguarded(&self) -> Result<(), Failure> {
         guard_file::unguarded(self.rt, self.path)
     }
 

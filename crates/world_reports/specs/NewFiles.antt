@@ -12,8 +12,8 @@ use Rattle.file_format.specs.declared.slot.Slot.TheVariants.{A, B}
 use Rattle.world_folder.specs.Fault.{Files}
 use Rattle.world_folder.specs.History.{Act, Made, synced}
 use Rattle.world_folder.specs.Left.{Leaves}
-use Rattle.world_folder.specs.declared.ending.Ending.{Ending}
-use Rattle.world_folder.specs.declared.ending.Ending.TheVariants.{Fault, Unfinished, Unreadable}
+use Rattle.world_folder.specs.declared.failure.Failure.{Failure}
+use Rattle.world_folder.specs.declared.failure.Failure.TheVariants.{Refused, Unfinished, Unreadable}
 use Rattle.world_folder.specs.declared.entry.Entry.{Entry}
 use Rattle.world_folder.specs.declared.unfinished.Why.{Why}
 use Rattle.world_folder.specs.declared.unfinished.Why.TheVariants as why
@@ -49,18 +49,18 @@ module _ {D : Type 0} (disk : Ghosts D) where
     pub images : AreImagesWritten newest files made.image_a made.image_b with_log_b with_images
     pub named : after ≡ synced with_images
 
--- The ending names the files that are left. Its reason is that of the failure, if it can be told
+-- The failure names the files that are left. Its reason is that of the command, if it can be told
 -- beside them.
-abbrev pub IsLeftBy : FourFiles Bool → Ending → Ending → Type 0
+abbrev pub IsLeftBy : FourFiles Bool → Failure → Failure → Type 0
 IsLeftBy left (Unreadable file) result =
     result ≡ Unfinished (record { made = left; why = why.File file })
-IsLeftBy left (Fault NoMemory) result =
+IsLeftBy left (Refused NoMemory) result =
     result ≡ Unfinished (record { made = left; why = why.NoMemory })
-IsLeftBy left ending result =
+IsLeftBy left failure result =
     (reason : Why) × (result ≡ Unfinished (record { made = left; why = reason }))
 
--- Of the files that were made, those are left that the ending names. No other file was removed.
-pub record IsTakenBack (ending result : Ending) (after : List Act) : Type 0 where
+-- Of the files that were made, those are left that the failure names. No other file was removed.
+pub record IsTakenBack (failure result : Failure) (after : List Act) : Type 0 where
   pub left : FourFiles Bool
   pub leaves : Leaves left after
-  pub named : ((left ≡ each_of false) × (result ≡ ending)) ⊎ IsLeftBy left ending result
+  pub named : ((left ≡ each_of false) × (result ≡ failure)) ⊎ IsLeftBy left failure result

@@ -1,5 +1,5 @@
 ghost use Rattle.std.specs.Prelude.{◌≡◌, Some, IsTrue, IfOk, IfErr, OnOk};
-ghost use Rattle.world_folder.specs.Ending.{IsDone, IsFault};
+ghost use Rattle.world_folder.specs.Ending.{IsDone};
 ghost use Rattle.world_reports.specs.Backup.{IsBackedUp, IsCopyMade, IsWithoutOlder, shut_older};
 ghost use Rattle.world_reports.specs.Backup.{with_its_guard, with_tries};
 ghost use Rattle.world_reports.specs.Reports.{IsGuardRead};
@@ -12,7 +12,9 @@ use disk_model::FourFiles;
 use file_format::CLOSED_GATE;
 use recovery::Slot;
 use std::{fmt, io};
-use world_folder::{Ending, Folder, GUARD, Guard, OnLoss, Reading, Source, WorldReport, checks_in};
+use world_folder::{
+    Ending, Failure, Folder, GUARD, Guard, OnLoss, Reading, Source, WorldReport, checks_in,
+};
 
 /// Copies the world of a folder into an empty one, and prints which world the copy holds. A server
 /// may write the world meanwhile. The guard is read first, so the copy has all ticks up to it,
@@ -25,14 +27,13 @@ pub fn back_up<F: Source, T: Folder>(
     from: &mut F,
     into: &mut T,
     on_loss: OnLoss,
-) -> Result<(FourFiles<T::File>, Ending), Ending>
+) -> Result<(FourFiles<T::File>, Ending), Failure>
     ensures backed_up { IsTrue F.honest → IsTrue F.File.honest → IsTrue T.honest
         → IsTrue T.File.honest → IfOk result (λ done. IsGuardRead on_loss
         (λ checks before after. IsBackedUp T.File.Disk checks (F.path from.old)
         done.0 done.1 before after (T.history into.old) (T.history into.new))
         (F.history from.old) (F.history from.new)) }
     ensures done { IfOk result (λ done. IsDone done.1) }
-    ensures fault { IfErr result IsFault }
 {
     let checks = checks_in(from, on_loss)?;
     look_for_room(from.path(), into)?;
@@ -50,11 +51,10 @@ fn copy_seen<T: Folder>(
     seen: SeenWorld,
     guard: Option<Guard>,
     made: &mut FourFiles<bool>,
-) -> Result<(FourFiles<T::File>, Ending), Ending>
+) -> Result<(FourFiles<T::File>, Ending), Failure>
     ensures copied { IsTrue T.honest → IsTrue T.File.honest → IfOk result (λ done.
         IsCopyMade T.File.Disk seen guard done.0 done.1 (T.history into.old) (T.history into.new)) }
     ensures done { IfOk result (λ done. IsDone done.1) }
-    ensures fault { IfErr result IsFault }
 {
     let newest = seen.found.world.slot;
     let copied = without_older(seen.files, newest);
@@ -69,10 +69,9 @@ fn copy_seen<T: Folder>(
 }
 
 // Gives a copy the guard of its world, if it has one.
-fn copy_guard<T: Folder>(into: &mut T, guard: Option<Guard>) -> Result<(), Ending>
+fn copy_guard<T: Folder>(into: &mut T, guard: Option<Guard>) -> Result<(), Failure>
     ensures put { IsTrue T.honest
         → OnOk result (T.history into.new ≡ with_its_guard guard (T.history into.old)) }
-    ensures fault { IfErr result IsFault }
 {
     let Some(guard) = guard else {
         return Ok(());

@@ -1,6 +1,6 @@
 //! A copy of the four files of a folder, which a server may write meanwhile, and the world in it.
 ghost use Rattle.std.specs.Prelude.{◌≡◌, true, false, IsTrue, IfOk, IfErr};
-ghost use Rattle.world_folder.specs.Ending.{IsFault, ReportsWhy};
+ghost use Rattle.world_folder.specs.Ending.{ReportsWhy};
 ghost use Rattle.world_folder.specs.Fault.{AreJudged, AreRead, Stands};
 ghost use Rattle.world_reports.specs.Copy.{IsSeen, IsMeasured, AreReadAndMeasured, IsVerified};
 ghost use Rattle.world_reports.specs.Copy.{IsSameWorld, IsWorldSeen};
@@ -12,8 +12,8 @@ use disk_model::{FourFiles, WorldFile};
 use recovery::Recovered;
 use std::io;
 use world_folder::{
-    Checks, Ending, Found, OnLoss, Reading, Source, Unreadable, WorldReport, all_read, ending_for,
-    read_folder, stands_in,
+    Checks, Ending, Failure, Found, OnLoss, Reading, Source, Unreadable, WorldReport, all_read,
+    failure_for, read_folder, stands_in,
 };
 
 /// Why no copy was taken.
@@ -49,10 +49,9 @@ pub fn look_for_world<F: Source>(
     folder: &mut F,
     how: Reading,
     checks: Checks,
-) -> Result<SeenWorld, Ending>
+) -> Result<SeenWorld, Failure>
     ensures seen { IsTrue F.honest → IsTrue F.File.honest → IfOk result (λ seen.
         IsWorldSeen checks seen (F.history folder.old) (F.history folder.new)) }
-    ensures fault { IfErr result IsFault }
 {
     let seen = look_at_folder(folder, how)?;
     let (files, found) = found_in(folder, seen.files, checks)?;
@@ -70,32 +69,30 @@ pub fn found_in<F: Source>(
     folder: &F,
     files: FourFiles<io::Result<Vec<u8>>>,
     checks: Checks,
-) -> Result<(FourFiles<Vec<u8>>, Found), Ending>
+) -> Result<(FourFiles<Vec<u8>>, Found), Failure>
     ensures read { IfOk result (λ found. AreRead files found.0) }
     ensures found { IfOk result (λ found. Stands found.0 found.1.world) }
     ensures judged { IfOk result (λ found.
         AreJudged checks found.0 found.1.world found.1.finding) }
     ensures why { IfErr result (ReportsWhy checks (F.path folder.now) files) }
-    ensures fault { IfErr result IsFault }
 {
     let files = all_read(folder, files)?;
     match stands_in(folder.alloc(), &files, checks) {
         Ok(found) => Ok((files, found)),
-        Err(fault) => Err(Ending::NoWorld(fault)),
+        Err(fault) => Err(Failure::NoWorld(fault)),
     }
 }
 
 /// Recovers the world in a folder, into which this one was written. Another one is refused.
-pub fn verify<F: Source>(folder: &mut F, written: &Recovered) -> Result<WorldReport, Ending>
+pub fn verify<F: Source>(folder: &mut F, written: &Recovered) -> Result<WorldReport, Failure>
     ensures verified { IsTrue F.honest → IsTrue F.File.honest → IfOk result (λ reported.
         IsVerified written.now reported (F.history folder.old) (F.history folder.new)) }
     ensures same { IfOk result (λ reported. reported.tick ≡ written.now.tick) }
-    ensures fault { IfErr result IsFault }
 {
     let read = read_folder(folder);
     let (_, found) = found_in(folder, read, Checks::of(OnLoss::Warn))?;
     if !is_same(written, &found.world) {
-        return Err(ending_of(folder, OTHER_WORLD));
+        return Err(failure_by(folder, OTHER_WORLD));
     }
     Ok(WorldReport::of(&found.world))
 }
@@ -107,26 +104,23 @@ fn is_same(written: &Recovered, found: &Recovered) -> bool
     written.tick == found.tick && written.words.as_slice() == found.words.as_slice()
 }
 
-// How the program ends if the folder can't be used, for this reason.
-fn ending_of<F: Source>(folder: &F, reason: &'static str) -> Ending
-    ensures { IsFault result }
-{
-    ending_for(folder.alloc(), "", folder.path(), io::Error::other(reason))
+// The failure of a command that can't use the folder, for this reason.
+fn failure_by<F: Source>(folder: &F, reason: &'static str) -> Failure {
+    failure_for(folder.alloc(), "", folder.path(), io::Error::other(reason))
 }
 
 /// Looks at both images and the log of a folder, opened so. If no image is open, or a file can't be
 /// read, no server writes a world there, and each file is read by itself. A file that couldn't be
 /// read at first is returned with its error.
-pub fn look_at_folder<F: Source>(folder: &mut F, how: Reading) -> Result<Seen, Ending>
+pub fn look_at_folder<F: Source>(folder: &mut F, how: Reading) -> Result<Seen, Failure>
     ensures seen { IsTrue F.honest → IsTrue F.File.honest → IfOk result (λ seen.
         IsSeen seen (F.history folder.old) (F.history folder.new)) }
-    ensures fault { IfErr result IsFault }
 {
     match copy_files(folder, how) {
         Ok(Attempt::Copied(seen)) => Ok(seen),
-        Ok(Attempt::Unsteady) => Err(ending_of(folder, UNSTEADY)),
+        Ok(Attempt::Unsteady) => Err(failure_by(folder, UNSTEADY)),
         Ok(Attempt::NoImage) => Ok(look_at_each(folder, None)),
-        Err(Ending::Unreadable(file)) => Ok(look_at_each(folder, Some(file))),
+        Err(Failure::Unreadable(file)) => Ok(look_at_each(folder, Some(file))),
         Err(_) => Ok(look_at_each(folder, None)),
     }
 }

@@ -1,6 +1,6 @@
 //! Figures of a world, by what its files hold.
 ghost use Rattle.std.specs.Prelude.{◌≡◌, IsTrue, IfOk, IfErr, Some, OnOk, false};
-ghost use Rattle.world_folder.specs.Ending.{IsChecked, IsDone, IsFault};
+ghost use Rattle.world_folder.specs.Ending.{IsChecked, IsDone};
 ghost use Rattle.world_reports.specs.Reports.{IsGuardRead};
 ghost use Rattle.world_reports.specs.StatusReport.{IsStatusReported, IsServerReported};
 ghost use Rattle.world_reports.specs.StatusReport.{IsHealthReported};
@@ -19,7 +19,9 @@ use disk_model::{FourFiles, IMAGE_A, IMAGE_B, LOG_A, LOG_B};
 use recovery::{Recovered, Slot};
 use std::fmt;
 use world_actions::Refusal;
-use world_folder::{Checks, Ending, FoundReport, Guard, OnLoss, Reading, Source, checks_in};
+use world_folder::{
+    Checks, Ending, Failure, FoundReport, Guard, OnLoss, Reading, Source, checks_in,
+};
 
 /// Figures of a world.
 #[derive(Clone, Copy, Debug, PartialEq, Eq)]
@@ -71,28 +73,40 @@ pub fn status<F: Source>(
     folder: &mut F,
     on_loss: OnLoss,
     checks_health: bool,
-) -> Result<Ending, Ending>
+) -> Result<Ending, Failure>
     ensures reported { IsTrue F.honest → IsTrue F.File.honest → IfOk result (λ ending.
         IsGuardRead on_loss (λ checks. IsHealthReported checks_health checks ending)
         (F.history folder.old) (F.history folder.new)) }
     ensures done { checks_health ≡ false → IfOk result IsDone }
     ensures checked { IfOk result IsChecked }
-    ensures fault { IfErr result IsFault }
 {
     match checks_in(folder, on_loss) {
-        Ok(checks) => {
-            let (ending, server) = report_status(folder, checks)?;
-            if !checks_health {
-                return Ok(ending);
-            }
-            let age = folder.guard_age();
-            report_health(folder, health_of(server, age), ending)
-        }
-        Err(ending) => {
+        Ok(checks) => status_by(folder, checks, checks_health),
+        Err(failure) => {
             print_server(folder)?;
-            Err(ending)
+            Err(failure)
         }
     }
+}
+
+// Reports a world by these checks, and whether it is well, if that is asked for.
+fn status_by<F: Source>(
+    folder: &mut F,
+    checks: Checks,
+    checks_health: bool,
+) -> Result<Ending, Failure>
+    ensures reported { IsTrue F.honest → IsTrue F.File.honest → IfOk result (λ ending.
+        IsHealthReported checks_health checks ending (F.history folder.old)
+        (F.history folder.new)) }
+    ensures done { checks_health ≡ false → IfOk result IsDone }
+    ensures checked { IfOk result IsChecked }
+{
+    let (ending, server) = report_status(folder, checks)?;
+    if !checks_health {
+        return Ok(ending);
+    }
+    let age = folder.guard_age();
+    report_health(folder, health_of(server, age), ending)
 }
 
 /// Prints the figures of the world in a folder, which a server may write meanwhile, and then
@@ -101,33 +115,30 @@ pub fn status<F: Source>(
 pub fn report_status<F: Source>(
     folder: &mut F,
     checks: Checks,
-) -> Result<(Ending, ServerReport), Ending>
+) -> Result<(Ending, ServerReport), Failure>
     ensures reported { IsTrue F.honest → IsTrue F.File.honest → IfOk result (λ reported.
         IsStatusReported checks reported.0 reported.1 (F.history folder.old)
         (F.history folder.new)) }
     ensures done { IfOk result (λ reported. IsDone reported.0) }
-    ensures fault { IfErr result IsFault }
 {
     let printed = print_figures(folder, checks);
     let server = print_server(folder)?;
     Ok((printed?, server))
 }
 
-fn print_server<F: Source>(folder: &mut F) -> Result<ServerReport, Ending>
+fn print_server<F: Source>(folder: &mut F) -> Result<ServerReport, Failure>
     ensures reported { IsTrue F.honest → IfOk result (λ server.
         IsServerReported server (F.history folder.old) (F.history folder.new)) }
-    ensures fault { IfErr result IsFault }
 {
     let reported = server_in(folder)?;
     folder.print(reported)?;
     Ok(reported)
 }
 
-fn print_figures<F: Source>(folder: &mut F, checks: Checks) -> Result<Ending, Ending>
+fn print_figures<F: Source>(folder: &mut F, checks: Checks) -> Result<Ending, Failure>
     ensures reported { IsTrue F.honest → IsTrue F.File.honest → IfOk result (λ ending.
         AreFiguresReported checks ending (F.history folder.old) (F.history folder.new)) }
     ensures done { IfOk result IsDone }
-    ensures fault { IfErr result IsFault }
 {
     let seen = look_for_world(folder, Reading::Cached, checks)?;
     warn_of_failed(folder, seen.failed)?;
@@ -139,10 +150,9 @@ fn print_figures<F: Source>(folder: &mut F, checks: Checks) -> Result<Ending, En
 }
 
 // Prints the guard of the world, if it has one.
-fn print_guard<F: Source>(folder: &mut F, guard: Option<Guard>) -> Result<(), Ending>
+fn print_guard<F: Source>(folder: &mut F, guard: Option<Guard>) -> Result<(), Failure>
     ensures printed { IsTrue F.honest
         → OnOk result (F.history folder.new ≡ with_guard guard (F.history folder.old)) }
-    ensures fault { IfErr result IsFault }
 {
     if let Some(guard) = guard {
         folder.print(GuardLine(guard))?;

@@ -1,13 +1,13 @@
 //! Whether a world is well that is to be served, for a program that watches it.
 ghost use Rattle.std.specs.Prelude.{◌≡◌, ◌∷◌, Some, IsTrue, IfOk, OnOk, IfErr};
-ghost use Rattle.world_folder.specs.Ending.{IsChecked, IsDone, IsFault};
+ghost use Rattle.world_folder.specs.Ending.{IsChecked, IsDone};
 ghost use Rattle.world_folder.specs.History.{Printed};
 ghost use Rattle.world_reports.specs.Health.{health_ending, health_of, health_text, images_health};
 ghost use Rattle.world_reports.specs.Health.{ending_with, health_of_up};
 
 use crate::server_report::{PartReport, ServerReport};
 use std::fmt;
-use world_folder::{Ending, Source, Unwell};
+use world_folder::{Ending, Failure, Source, Unwell};
 
 /// After how many seconds without a sign of life a server counts as one that hangs. One that is
 /// well gives one each second.
@@ -75,13 +75,12 @@ pub fn report_health<F: Source>(
     folder: &mut F,
     health: Health,
     ending: Ending,
-) -> Result<Ending, Ending>
+) -> Result<Ending, Failure>
     requires { IsDone ending }
     ensures printed { IsTrue F.honest
         → OnOk result (F.history folder.new ≡ Printed (health_text health) ∷ F.history folder.old) }
     ensures ends { IfOk result (λ ended. ended ≡ ending_with health ending) }
     ensures checked { IfOk result IsChecked }
-    ensures fault { IfErr result IsFault }
 {
     folder.print(health)?;
     Ok(ending_with(health, ending))

@@ -1,6 +1,6 @@
 ghost use Rattle.std.specs.Prelude.{◌≡◌, Some, IsTrue, IfOk, IfErr, OnOk, string_bytes};
 ghost use Rattle.disk_model.specs.FourFiles.{value_of};
-ghost use Rattle.world_folder.specs.Ending.{IsDone, IsFault};
+ghost use Rattle.world_folder.specs.Ending.{IsDone};
 ghost use Rattle.world_reports.specs.Inspection.{IsLineOf, IsFileReport, IsInspected, words_text};
 ghost use Rattle.world_reports.specs.Inspection.{AreFilesReported, file_line_text, words_printed};
 ghost use Rattle.world_reports.specs.Reports.{IsGuardRead};
@@ -13,7 +13,7 @@ use disk_model::{FourFiles, WorldFile};
 use recovery::Recovered;
 use std::alloc::{AllocError, Global};
 use std::{fmt, io};
-use world_folder::{Ending, FoundReport, OnLoss, Reading, Source, checks_in};
+use world_folder::{Ending, Failure, FoundReport, OnLoss, Reading, Source, checks_in};
 
 /// Prints how each file of a folder reads, and then which world they hold, with its words if they
 /// are asked for. On standard error it names what was lost. A server may write the world meanwhile.
@@ -22,12 +22,11 @@ pub fn inspect<F: Source>(
     folder: &mut F,
     with_words: bool,
     on_loss: OnLoss,
-) -> Result<Ending, Ending>
+) -> Result<Ending, Failure>
     ensures reported { IsTrue F.honest → IsTrue F.File.honest → IfOk result (λ ending.
         IsGuardRead on_loss (λ checks. IsInspected with_words checks ending)
         (F.history folder.old) (F.history folder.new)) }
     ensures done { IfOk result IsDone }
-    ensures fault { IfErr result IsFault }
 {
     let checks = checks_in(folder, on_loss)?;
     let seen = look_at_folder(folder, Reading::Synced)?;
@@ -41,12 +40,15 @@ pub fn inspect<F: Source>(
 }
 
 // Prints the words of a world, if they are asked for.
-fn print_words<F: Source>(folder: &mut F, found: &Recovered, with_words: bool) -> Result<(), Ending>
+fn print_words<F: Source>(
+    folder: &mut F,
+    found: &Recovered,
+    with_words: bool,
+) -> Result<(), Failure>
     ensures printed { IsTrue F.honest
         → OnOk result
         (F.history folder.new
         ≡ words_printed with_words found.now.words.items (F.history folder.old)) }
-    ensures fault { IfErr result IsFault }
 {
     if with_words {
         let line = line_of(folder.alloc(), &found.words)?;
@@ -56,10 +58,9 @@ fn print_words<F: Source>(folder: &mut F, found: &Recovered, with_words: bool) -
 }
 
 // Prints how each file reads.
-fn print_files<F: Source>(folder: &mut F, seen: &Seen) -> Result<(), Ending>
+fn print_files<F: Source>(folder: &mut F, seen: &Seen) -> Result<(), Failure>
     ensures printed { IsTrue F.honest
         → OnOk result (AreFilesReported seen.now (F.history folder.old) (F.history folder.new)) }
-    ensures fault { IfErr result IsFault }
 {
     let alloc = folder.alloc();
     let lines = FourFiles {

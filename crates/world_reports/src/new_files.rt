@@ -3,7 +3,7 @@ ghost use Rattle.std.specs.Prelude.{◌≡◌, ◌∷◌, [], Ok, true, false, I
 ghost use Rattle.std.specs.Prelude.{IsErr, OnErr, OnOk};
 ghost use Rattle.disk_model.specs.Disk.{Only};
 ghost use Rattle.disk_model.specs.FourFiles.{each_of, with_value};
-ghost use Rattle.world_folder.specs.Ending.{IsFault, NamesFile};
+ghost use Rattle.world_folder.specs.Ending.{NamesFile};
 ghost use Rattle.world_folder.specs.History.{FoundEmpty, FoundOutside};
 ghost use Rattle.world_folder.specs.Left.{Leaves};
 ghost use Rattle.world_reports.specs.NewFiles.{AreImagesWritten, AreWritten, IsWritten};
@@ -15,33 +15,32 @@ use std::io;
 use std::path::PathBuf;
 use world_actions::Refusal;
 use world_folder::{
-    Ending, Filled, Folder, Inside, Unfinished, Unreadable, Why, blame, explain, sync_names,
+    Ending, Failure, Filled, Folder, Inside, Unfinished, Unreadable, Why, blame, explain,
+    sync_names,
 };
 
 /// Refuses a folder that lies in the world's own at this path, or that has a file.
-pub fn look_for_room<F: Folder>(path: &str, into: &mut F) -> Result<(), Ending>
+pub fn look_for_room<F: Folder>(path: &str, into: &mut F) -> Result<(), Failure>
     ensures room { IsTrue F.honest → OnOk result
         (F.history into.new ≡ FoundEmpty ∷ FoundOutside path.now ∷ F.history into.old) }
-    ensures fault { IfErr result IsFault }
 {
     let lies_in = into.lies_in(path);
     if blame_folder(into, lies_in)? {
         let path = PathBuf::from_str(into.alloc(), into.path())?;
-        return Err(Ending::Inside(Inside { path }));
+        return Err(Failure::Inside(Inside { path }));
     }
     let is_empty = into.is_empty();
     if !blame_folder(into, is_empty)? {
         let path = PathBuf::from_str(into.alloc(), into.path())?;
-        return Err(Ending::Filled(Filled { path }));
+        return Err(Failure::Filled(Filled { path }));
     }
     Ok(())
 }
 
 // The answer of a call on a folder. After an error the program ends, and names the folder.
-fn blame_folder<F: Folder, T>(into: &F, answer: io::Result<T>) -> Result<T, Ending>
+fn blame_folder<F: Folder, T>(into: &F, answer: io::Result<T>) -> Result<T, Failure>
     ensures ok { IfOk answer (λ value. result ≡ Ok value) }
     ensures fails { OnErr answer (IsErr result) }
-    ensures fault { IfErr result IsFault }
 {
     blame(into.alloc(), "", into.path(), answer)
 }
@@ -53,12 +52,11 @@ pub fn write_files<F: Folder>(
     files: &FourFiles<Vec<u8>>,
     newest: Slot,
     made: &mut FourFiles<bool>,
-) -> Result<FourFiles<F::File>, Ending>
+) -> Result<FourFiles<F::File>, Failure>
     ensures written { IsTrue F.honest → IsTrue F.File.honest → IfOk result (λ written.
         AreWritten F.File.Disk newest files.now written (F.history into.old) (F.history into.new)) }
     ensures left { IsTrue F.honest
         → Leaves made.old (F.history into.old) → Leaves made.new (F.history into.new) }
-    ensures fault { IfErr result IsFault }
 {
     let log_a = write_one(into, WorldFile::LogA, &files.log_a, made)?;
     let log_b = write_one(into, WorldFile::LogB, &files.log_b, made)?;
@@ -78,13 +76,12 @@ fn write_images<F: Folder>(
     files: &FourFiles<Vec<u8>>,
     newest: Slot,
     made: &mut FourFiles<bool>,
-) -> Result<(F::File, F::File), Ending>
+) -> Result<(F::File, F::File), Failure>
     ensures written { IsTrue F.honest → IsTrue F.File.honest → IfOk result (λ made.
         AreImagesWritten F.File.Disk newest files.now made.0 made.1
         (F.history into.old) (F.history into.new)) }
     ensures left { IsTrue F.honest
         → Leaves made.old (F.history into.old) → Leaves made.new (F.history into.new) }
-    ensures fault { IfErr result IsFault }
 {
     match newest {
         Slot::A => {
@@ -107,13 +104,12 @@ pub fn write_one<F: Folder>(
     file: WorldFile,
     bytes: &[u8],
     made: &mut FourFiles<bool>,
-) -> Result<F::File, Ending>
+) -> Result<F::File, Failure>
     ensures written { IsTrue F.honest → IsTrue F.File.honest → IfOk result (λ disk.
         IsWritten F.File.Disk file bytes.now disk (F.history into.old) (F.history into.new)) }
     ensures left { IsTrue F.honest
         → Leaves made.old (F.history into.old) → Leaves made.new (F.history into.new) }
     ensures named { IfErr result (NamesFile (F.path into.old) file) }
-    ensures fault { IfErr result IsFault }
 {
     let written = write_file(into, file, bytes, made);
     into.blame(file.name(), written)
@@ -151,20 +147,18 @@ fn write_bytes<D: Disk>(disk: &mut D, bytes: &[u8]) -> Result<(), Refusal>
     disk.sync()
 }
 
-/// How a copy ends that failed after it made these files in a folder. They are removed, so that the
+/// The failure of a copy after it made these files in a folder. They are removed, so that the
 /// same command can be run again. Those that can't be removed are named.
-pub fn take_back<F: Folder>(into: &mut F, made: FourFiles<bool>, ending: Ending) -> Ending
-    requires { IsFault ending }
+pub fn take_back<F: Folder>(into: &mut F, made: FourFiles<bool>, failure: Failure) -> Failure
     ensures taken_back { IsTrue F.honest → Leaves made (F.history into.old)
-        → IsTakenBack ending result (F.history into.new) }
-    ensures fault { IsFault result }
+        → IsTakenBack failure result (F.history into.new) }
 {
     let mut left = made;
     let unremoved = remove_each(into, &mut left);
     let _ = into.sync_names();
     match unremoved {
-        Some((file, error)) => left_by(into, left, (file, error), ending),
-        None => ending,
+        Some((file, error)) => left_by(into, left, (file, error), failure),
+        None => failure,
     }
 }
 
@@ -207,30 +201,29 @@ fn remove_one<F: Folder>(
     }
 }
 
-// How a copy ends of which these files are left.
+// The failure of a copy of which these files are left.
 fn left_by<F: Folder>(
     into: &F,
     left: FourFiles<bool>,
     unremoved: (WorldFile, io::Error),
-    ending: Ending,
-) -> Ending
-    ensures left { IsLeftBy left ending result }
-    ensures fault { IsFault result }
+    failure: Failure,
+) -> Failure
+    ensures left { IsLeftBy left failure result }
 {
-    match ending {
-        Ending::Unreadable(file) => ending_unfinished(left, Why::File(file)),
-        Ending::Fault(Refusal::NoMemory) => ending_unfinished(left, Why::NoMemory),
+    match failure {
+        Failure::Unreadable(file) => failure_unfinished(left, Why::File(file)),
+        Failure::Refused(Refusal::NoMemory) => failure_unfinished(left, Why::NoMemory),
         other => {
             drop(other);
-            ending_unfinished(left, why_unremoved(into, unremoved))
+            failure_unfinished(left, why_unremoved(into, unremoved))
         }
     }
 }
 
-fn ending_unfinished(made: FourFiles<bool>, why: Why) -> Ending
-    ensures { result ≡ Ending.Unfinished (record { made = made; why = why }) }
+fn failure_unfinished(made: FourFiles<bool>, why: Why) -> Failure
+    ensures { result ≡ Failure.Unfinished (record { made = made; why = why }) }
 {
-    Ending::Unfinished(Unfinished { made, why })
+    Failure::Unfinished(Unfinished { made, why })
 }
 
 fn why_unremoved<F: Folder>(into: &F, unremoved: (WorldFile, io::Error)) -> Why {

@@ -1,22 +1,21 @@
 ghost use Rattle.std.specs.Prelude.{Some, IsTrue, IfOk, IfErr};
-ghost use Rattle.world_folder.specs.Ending.{IsDone, IsFault};
+ghost use Rattle.world_folder.specs.Ending.{IsDone};
 ghost use Rattle.world_folder.specs.Texts.{recovered_line};
 ghost use Rattle.world_reports.specs.Reports.{IsGuardRead, IsWorldReported};
 
 use crate::copy::look_for_world;
 use crate::warnings::{warn_of, warn_of_failed};
 use std::fmt;
-use world_folder::{Ending, OnLoss, Reading, Source, WorldReport, checks_in};
+use world_folder::{Ending, Failure, OnLoss, Reading, Source, WorldReport, checks_in};
 
 /// Prints which world the files of a folder hold, which a server may write meanwhile. It writes
 /// nothing into the folder. On standard error it names what was lost. It returns how the command
 /// ends.
-pub fn recover<F: Source>(folder: &mut F, on_loss: OnLoss) -> Result<Ending, Ending>
+pub fn recover<F: Source>(folder: &mut F, on_loss: OnLoss) -> Result<Ending, Failure>
     ensures reported { IsTrue F.honest → IsTrue F.File.honest → IfOk result (λ ending.
         IsGuardRead on_loss (λ checks. IsWorldReported checks ending)
         (F.history folder.old) (F.history folder.new)) }
     ensures done { IfOk result IsDone }
-    ensures fault { IfErr result IsFault }
 {
     let checks = checks_in(folder, on_loss)?;
     let seen = look_for_world(folder, Reading::Synced, checks)?;

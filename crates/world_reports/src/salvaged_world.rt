@@ -1,7 +1,7 @@
 //! A new world of what can be read of damaged files.
 ghost use Rattle.std.specs.Prelude.{◌≡◌, ◌++◌, codes, Some, IsTrue, IfOk, IfErr, OnOk};
 ghost use Rattle.world_actions.specs.World.{IsWorld};
-ghost use Rattle.world_folder.specs.Ending.{IsDone, IsFault};
+ghost use Rattle.world_folder.specs.Ending.{IsDone};
 ghost use Rattle.world_reports.specs.Reports.{NamesFailed};
 ghost use Rattle.world_reports.specs.SalvagedWorld.{AreBytesOf, NamesLost, AreTakenOf, lost_of};
 ghost use Rattle.world_reports.specs.SalvagedWorld.{failed_of, AreFailedNamed, parts_printed};
@@ -26,7 +26,8 @@ use std::alloc::{AllocError, Global};
 use std::{fmt, io};
 use world_actions::Refusal;
 use world_folder::{
-    Ending, Finding, Folder, Guard, Source, Unreadable, WorldFault, WorldReport, older_finding,
+    Ending, Failure, Finding, Folder, Guard, Source, Unreadable, WorldFault, WorldReport,
+    older_finding,
 };
 
 /// Makes a world in an empty folder of what can be read of the files of another one, in which
@@ -37,13 +38,12 @@ use world_folder::{
 pub fn salvage_world<F: Source, T: Folder>(
     from: &mut F,
     into: &mut T,
-) -> Result<(FourFiles<T::File>, Ending), Ending>
+) -> Result<(FourFiles<T::File>, Ending), Failure>
     ensures salvaged { IsTrue F.honest → IsTrue F.File.honest → IsTrue T.honest
         → IsTrue T.File.honest → IfOk result (λ done.
         IsSalvagedInto T.File.Disk (F.path from.old) done.0 done.1
         (F.history from.old) (F.history from.new) (T.history into.old) (T.history into.new)) }
     ensures done { IfOk result (λ done. IsDone done.1) }
-    ensures fault { IfErr result IsFault }
 {
     let guard = from.read_guard()?;
     look_for_room(from.path(), into)?;
@@ -62,11 +62,10 @@ fn salvage_read<F: Source, T: Folder>(
     into: &mut T,
     guard: Option<Guard>,
     made: &mut FourFiles<bool>,
-) -> Result<(FourFiles<T::File>, Ending), Ending>
+) -> Result<(FourFiles<T::File>, Ending), Failure>
     ensures salvaged { IsTrue T.honest → IsTrue T.File.honest → IfOk result (λ done.
         IsMadeOf T.File.Disk guard read done.0 done.1 (T.history into.old) (T.history into.new)) }
     ensures done { IfOk result (λ done. IsDone done.1) }
-    ensures fault { IfErr result IsFault }
 {
     let lost = lost_of(&read);
     let failed = failed_of(&read);
@@ -115,10 +114,9 @@ fn warn_of_each<F: Source, T: Folder>(
     from: &F,
     failed: &FourFiles<Option<io::Error>>,
     into: &mut T,
-) -> Result<(), Ending>
+) -> Result<(), Failure>
     ensures named { IsTrue T.honest
         → OnOk result (AreFailedNamed failed.now (T.history into.old) (T.history into.new)) }
-    ensures fault { IfErr result IsFault }
 {
     warn_of_one(from, WorldFile::ImageA, failed.image_a, into)?;
     warn_of_one(from, WorldFile::ImageB, failed.image_b, into)?;
@@ -131,10 +129,9 @@ fn warn_of_one<F: Source, T: Folder>(
     file: WorldFile,
     failed: Option<io::Error>,
     into: &mut T,
-) -> Result<(), Ending>
+) -> Result<(), Failure>
     ensures named { IsTrue T.honest
         → OnOk result (NamesFailed failed (T.history into.old) (T.history into.new)) }
-    ensures fault { IfErr result IsFault }
 {
     let Some(error) = failed else {
         return Ok(());
@@ -149,10 +146,9 @@ fn readable_in<F: Source, T: Folder>(
     from: &F,
     read: FourFiles<TwoTries>,
     into: &mut T,
-) -> Result<FourFiles<Vec<u8>>, Ending>
+) -> Result<FourFiles<Vec<u8>>, Failure>
     ensures taken { IsTrue T.honest
         → IfOk result (λ files. AreTakenOf read files (T.history into.old) (T.history into.new)) }
-    ensures fault { IfErr result IsFault }
 {
     Ok(FourFiles {
         image_a: readable(from, WorldFile::ImageA, read.image_a, into)?,
@@ -167,11 +163,10 @@ fn readable<F: Source, T: Folder>(
     file: WorldFile,
     read: TwoTries,
     into: &mut T,
-) -> Result<Vec<u8>, Ending>
+) -> Result<Vec<u8>, Failure>
     ensures bytes { IfOk result (AreBytesOf read.value) }
     ensures named { IsTrue T.honest
         → OnOk result (NamesLost read.value (T.history into.old) (T.history into.new)) }
-    ensures fault { IfErr result IsFault }
 {
     match read.value {
         Err(error) if is_lost(&error) => {
@@ -192,10 +187,9 @@ impl fmt::Display for LostLine {
     }
 }
 
-fn salvaged_of(alloc: Global, files: &FourFiles<Vec<u8>>) -> Result<Salvaged, Ending>
+fn salvaged_of(alloc: Global, files: &FourFiles<Vec<u8>>) -> Result<Salvaged, Failure>
     ensures salvaged { IfOk result (IsSalvagedOf files.now) }
     ensures world { IfOk result (λ salvaged. IsWorld salvaged.found.words.items) }
-    ensures fault { IfErr result IsFault }
 {
     match salvage(
         alloc,
@@ -205,16 +199,15 @@ fn salvaged_of(alloc: Global, files: &FourFiles<Vec<u8>>) -> Result<Salvaged, En
         &files.log_b,
     ) {
         Ok(salvaged) => Ok(salvaged),
-        Err(Refusal::NoImage) => Err(Ending::NoWorld(WorldFault::NoImage)),
-        Err(refusal) => Err(Ending::Fault(refusal)),
+        Err(Refusal::NoImage) => Err(Failure::NoWorld(WorldFault::NoImage)),
+        Err(refusal) => Err(Failure::Refused(refusal)),
     }
 }
 
 // Prints what is taken of each file.
-fn print_parts<T: Folder>(into: &mut T, salvaged: &Salvaged) -> Result<(), Ending>
+fn print_parts<T: Folder>(into: &mut T, salvaged: &Salvaged) -> Result<(), Failure>
     ensures printed { IsTrue T.honest
         → OnOk result (T.history into.new ≡ parts_printed salvaged.now (T.history into.old)) }
-    ensures fault { IfErr result IsFault }
 {
     let tick = salvaged.found.tick;
     into.print(ImageLine(WorldFile::ImageA, salvaged.image_a))?;

@@ -1,3 +1,2 @@
-pub mod EndingLemmas
 pub mod ServedLemmas
 pub mod FolderRunLemmas

@@ -23,11 +23,14 @@ use Rattle.worker_threads.specs.declared.threads.NotStarted.{NotStarted}
 use Rattle.worker_threads.specs.declared.threads.NotStarted.TheVariants as unbegun
 use Rattle.client_service.specs.declared.server.NotServed.{NotServed}
 use Rattle.client_service.specs.declared.server.NotServed.TheVariants.{NotBegun, Left}
-use Rattle.world_folder.specs.Ending.{IsFault}
+use Rattle.world_folder.specs.Ending.{IsFailed}
 use Rattle.world_folder.specs.Unrecovered.{IsUnrecovered}
+use Rattle.world_folder.specs.declared.checked.NotRecovered.TheVariants as unread
 use Rattle.world_folder.specs.declared.ending.Ending.{Ending}
-use Rattle.world_folder.specs.declared.ending.Ending.TheVariants.{Fault, Server}
-use Rattle.world_folder.specs.declared.ending.ServerEnding.TheVariants.{NoThread}
+use Rattle.world_folder.specs.declared.ending.Ending.TheVariants.{Failed}
+use Rattle.world_folder.specs.declared.failure.Failure.{Failure}
+use Rattle.world_folder.specs.declared.failure.Failure.TheVariants.{Refused, NoWorld, NoThread}
+use Rattle.world_folder.specs.declared.fault.WorldFault.TheVariants as fault
 use Rattle.world_folder.specs.declared.found.WorldReport.{WorldReport}
 use Rattle.world_folder.specs.declared.lost.Finding.{Finding}
 use Rattle.world_folder.specs.declared.lost.Checks.{Checks}
@@ -58,32 +61,35 @@ stopped_line m c w = line.Stopped m.ended (acknowledged_by c w)
 abbrev pub failure_lines : {D : Type 0} → WorldFailure D → List Line
 failure_lines (failure.NotRecovered files why) = []
 failure_lines (failure.NotStarted world files refusal) = recovered_line world ∷ []
-failure_lines (failure.NotOpened world files ending) = recovered_line world ∷ []
+failure_lines (failure.NotOpened world files why) = recovered_line world ∷ []
 failure_lines (failure.NotRun world ending) = recovered_line world ∷ []
 
--- the program ends as a server does, and in a fault if no client could come
+-- the program ends as a server does
 abbrev pub EndsAsFailed : {D : Type 0} → WorldFailure D → Type 0
-EndsAsFailed (failure.NotOpened world files ending) = IsFault ending
 EndsAsFailed (failure.NotRun world ending) = EndsServing ending
 EndsAsFailed other = Unit {0}
 
 -- the program ends in a fault if the world wasn't started, else as the failure says
 abbrev pub EndsBy : {D : Type 0} → WorldFailure D → Ending → Type 0
-EndsBy (failure.NotOpened world files given) ending = ending ≡ given
+EndsBy (failure.NotOpened world files why) ending = ending ≡ Failed why
 EndsBy (failure.NotRun world given) ending = ending ≡ given
-EndsBy other ending = IsFault ending
+EndsBy (failure.NotStarted world files refusal) ending =
+    IsFailed ending × (refusal ≢ Device → ending ≡ Failed (Refused refusal))
+EndsBy (failure.NotRecovered files (unread.Lost lost)) ending =
+    ending ≡ Failed (NoWorld (fault.Lost lost))
+EndsBy (failure.NotRecovered files (unread.Refused refusal)) ending = IsFailed ending
 
--- how a server ends whose workers aren't started
-abbrev pub ending_unbegun : NotStarted → Ending
-ending_unbegun unbegun.NoMemory = Fault NoMemory
-ending_unbegun unbegun.NoThread = Server NoThread
+-- the failure of a server whose workers aren't started
+abbrev pub failure_unbegun : NotStarted → Failure
+failure_unbegun unbegun.NoMemory = Refused NoMemory
+failure_unbegun unbegun.NoThread = NoThread
 
 -- why a world isn't served to its end: its files are given back if they are there
 abbrev pub failure_by : {D : Type 0} → WorldReport → Losses → NotServed D → WorldFailure D
 failure_by world lost (NotBegun refused) =
-    let ending : Ending = ending_unbegun refused.why in
-    option_map_or (λ files. failure.NotOpened world files ending) refused.files
-    (failure.NotRun world ending)
+    let why : Failure = failure_unbegun refused.why in
+    option_map_or (λ files. failure.NotOpened world files why) refused.files
+    (failure.NotRun world (Failed why))
 failure_by world lost Left = failure.NotRun world (left_ending lost)
 
 -- ---- the files
@@ -143,7 +149,7 @@ FailsFor disk checks files (failure.NotRecovered left why) = IsUnrecovered disk 
 FailsFor disk checks files (failure.NotStarted world left refusal) =
     (refusal ≡ NoMemory) ⊎ (refusal ≡ Device)
 FailsFor disk checks files (failure.NotOpened world left ending) = Unit {0}
-FailsFor disk checks files (failure.NotRun world ending) = ending ≢ Fault NoMemory
+FailsFor disk checks files (failure.NotRun world ending) = ending ≢ Failed (Refused NoMemory)
 
 -- the files of a world that isn't served, if no worker may have them
 abbrev pub given_files : {D : Type 0} → WorldFailure D → Option (FourFiles D)
@@ -159,4 +165,4 @@ GivesBack world files (failure.NotStarted recovered left refusal) = ⊥
 GivesBack world files (failure.NotOpened recovered left ending) =
     (recovered ≡ world) × (left ≡ files)
 GivesBack world files (failure.NotRun recovered ending) =
-    (recovered ≡ world) × (ending ≢ Fault NoMemory)
+    (recovered ≡ world) × (ending ≢ Failed (Refused NoMemory))

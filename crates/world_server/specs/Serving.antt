@@ -9,13 +9,15 @@ use Rattle.image_files.specs.declared.phase.Phase.TheVariants.{Down}
 use Rattle.client_service.specs.declared.accept.Closed.{Closed}
 use Rattle.client_service.specs.declared.accept.Closed.TheVariants as closed
 use Rattle.world_folder.specs.declared.ending.Ending.{Ending}
-use Rattle.world_folder.specs.declared.ending.Ending.TheVariants.{Ran, HelpPrinted, Mistaken, Fault}
-use Rattle.world_folder.specs.declared.ending.Ending.TheVariants.{MayBeOlder, Server, Unwell}
+use Rattle.world_folder.specs.declared.ending.Ending.TheVariants.{Ran, HelpPrinted, Mistaken}
+use Rattle.world_folder.specs.declared.ending.Ending.TheVariants.{MayBeOlder, Failed, Stopped}
+use Rattle.world_folder.specs.declared.ending.Ending.TheVariants.{Unwell}
+use Rattle.world_folder.specs.declared.failure.Failure.TheVariants.{Refused}
 use Rattle.world_folder.specs.declared.ending.ServerEnding.TheVariants.{ListenerFailed, ImagesDown}
 use Rattle.world_folder.specs.declared.ending.ServerEnding.TheVariants.{LogDown}
 use Rattle.world_server.specs.declared.standing.Losses.{Losses}
 
--- A server ran to its end, or a fault or a failure ended it. No command line ends it, no older
+-- A server ran to its end, or a failure ended it. No command line ends it, no older
 -- world, and no check of one.
 abbrev pub EndsServing : Ending → Type 0
 EndsServing HelpPrinted = ⊥
@@ -27,9 +29,9 @@ EndsServing ending = Unit {0}
 -- how a server ends that is left: by its log, else by its images, else by its listener; else well
 abbrev pub left_ending : Losses → Ending
 left_ending lost =
-    if lost.log then Server LogDown else
-    (if lost.images then Server ImagesDown else
-    (if lost.listener then Server ListenerFailed else Ran))
+    if lost.log then Stopped LogDown else
+    (if lost.images then Stopped ImagesDown else
+    (if lost.listener then Stopped ListenerFailed else Ran))
 
 -- so many seconds have passed; without a number or a known time they never have
 abbrev pub IsOverdue : (seconds : Option ℕ) → (passed : Option Duration) → Type 0
@@ -39,16 +41,16 @@ IsOverdue seconds passed = ⊥
 -- how a server ends whose log and images are up, by the reason why no more connections are accepted
 abbrev pub closed_ending : Closed → Ending
 closed_ending closed.AllCame = Ran
-closed_ending closed.NoMemory = Fault NoMemory
-closed_ending (closed.Failed error) = Server ListenerFailed
-closed_ending closed.Left = Server LogDown
+closed_ending closed.NoMemory = Failed (Refused NoMemory)
+closed_ending (closed.Failed error) = Stopped ListenerFailed
+closed_ending closed.Left = Stopped LogDown
 
 -- a server that has stopped ends by its log, else by its images, else by the reason why no more
 -- connections are accepted
 pub record StopsWith (log_down : Bool) (images : Phase) (reason : Closed)
     (ending : Ending) : Type 0 where
-  pub log : log_down ≡ true → ending ≡ Server LogDown
-  pub images_down : log_down ≡ false → images ≡ Down → ending ≡ Server ImagesDown
+  pub log : log_down ≡ true → ending ≡ Stopped LogDown
+  pub images_down : log_down ≡ false → images ≡ Down → ending ≡ Stopped ImagesDown
   pub up : log_down ≡ false → images ≢ Down → ending ≡ closed_ending reason
 
 -- A server that has stopped ends so, if its lines could be printed. One that ended well may end

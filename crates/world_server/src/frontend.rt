@@ -1,6 +1,5 @@
 //! The side of a server that its operator and its clients meet.
 ghost use Rattle.std.specs.Prelude.{◌≡◌, ◌≢◌, ◌++◌, ◌∷◌, [], Bool, List, IsTrue, IfErr};
-ghost use Rattle.world_folder.specs.Ending.{IsFault};
 ghost use Rattle.world_server.specs.Serving.{EndsServing};
 ghost use Rattle.world_server.specs.declared.line.Line.{Line as Printed};
 ghost use Rattle.world_server.specs.declared.service.Service.{Service as Asked};
@@ -12,7 +11,7 @@ use file_disk::{FileDisk, Pace, Valve};
 use shared_capture::Method;
 use transports::Listener;
 use worker_steps::Opened;
-use world_folder::{Ending, Guard, WorldDisk};
+use world_folder::{Ending, Failure, Guard, WorldDisk};
 
 /// Prints the lines of a server of such a world, and lets its clients in. `W` hears of its workers
 /// and its sessions.
@@ -37,10 +36,9 @@ pub trait Frontend<M: Method, D: Disk + Drop, W> {
         ensures noted { IsTrue known → noted self.new ≡ noted self.old ++ line ∷ [] };
 
     /// Listens for the clients of an open world.
-    fn open(&mut self, opened: &Opened<M, D>) -> Result<(Listener, W), Ending>
+    fn open(&mut self, opened: &Opened<M, D>) -> Result<(Listener, W), Failure>
         ensures printed { IsTrue known → printed self.new ≡ printed self.old }
-        ensures noted { IsTrue known → noted self.new ≡ noted self.old }
-        ensures fault { IfErr result IsFault };
+        ensures noted { IsTrue known → noted self.new ≡ noted self.old };
 
     /// The parts of the server that are down so far.
     fn losses(&self) -> Losses;

@@ -4,7 +4,6 @@ ghost use Rattle.std.specs.Prelude.{◌≡◌, ◌≢◌, true, false, IfOk, IfE
 ghost use Rattle.std.specs.IoError.{error_kind};
 ghost use Rattle.std.specs.Path.{path_buf_bytes, path_join};
 ghost use Rattle.disk_model.specs.FourFiles.{mapped, name_of};
-ghost use Rattle.world_folder.specs.Ending.{IsFault};
 ghost use Rattle.world_server.specs.Paths.{ArePathsIn};
 
 use crate::runtime::LookUp;
@@ -16,7 +15,7 @@ use std::path::PathBuf;
 use std::sync::atomic::{AtomicBool, Ordering};
 use std::time::Clock;
 use workers::{ImageWriter, Log};
-use world_folder::{Ending, Entry, blame, path_of};
+use world_folder::{Entry, Failure, blame, path_of};
 
 /// A file that a server has open, as its witness sees it.
 #[derive(Drop)]
@@ -27,10 +26,9 @@ pub struct KeptFile {
 }
 
 impl KeptFile {
-    fn of(alloc: Global, folder: &str, file: WorldFile, disk: &FileDisk) -> Result<Self, Ending>
+    fn of(alloc: Global, folder: &str, file: WorldFile, disk: &FileDisk) -> Result<Self, Failure>
         ensures path { IfOk result (λ kept.
             path_buf_bytes kept.path ≡ path_join folder.now (name_of file)) }
-        ensures fault { IfErr result IsFault }
     {
         Ok(KeptFile {
             witness: blame(alloc, folder, file.name(), disk.witness())?,
@@ -65,10 +63,9 @@ pub fn kept_files(
     folder: &str,
     images: &ImageWriter<FileDisk>,
     log: &Log<FileDisk>,
-) -> Result<FourFiles<KeptFile>, Ending>
+) -> Result<FourFiles<KeptFile>, Failure>
     ensures paths { IfOk result (λ kept.
         ArePathsIn folder.now (mapped (λ file. file.path) kept)) }
-    ensures fault { IfErr result IsFault }
 {
     Ok(FourFiles {
         image_a: KeptFile::of(alloc, folder, WorldFile::ImageA, &images.image_a)?,

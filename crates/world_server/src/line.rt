@@ -11,7 +11,7 @@ use world_folder::{Finding, Reason};
 
 /// A file whose call failed, and why.
 #[derive(Clone, Copy, Debug)]
-pub struct Failure {
+pub struct FailedFile {
     pub file: WorldFile,
     pub error: io::Error,
 }
@@ -38,10 +38,10 @@ pub enum Line {
         acked: u64,
     },
     ImageOpened(u64),
-    ImagesDown(Option<Failure>),
+    ImagesDown(Option<FailedFile>),
     LogDown {
         acked: u64,
-        failure: Option<Failure>,
+        failure: Option<FailedFile>,
     },
     /// The file no longer stands under its name.
     FileMissed(WorldFile),
@@ -140,9 +140,9 @@ impl fmt::Display for Printed<'_> {
 fn write_failure<W: fmt::Write>(
     f: &mut fmt::Formatter<W>,
     paths: &FourFiles<PathBuf>,
-    failure: Option<Failure>,
+    failure: Option<FailedFile>,
 ) -> fmt::Result {
-    let Some(Failure { file, error }) = failure else {
+    let Some(FailedFile { file, error }) = failure else {
         return Ok(());
     };
     write!(f, ": {}: {}", paths.get(file).as_str(), Reason(error))

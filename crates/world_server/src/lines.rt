@@ -4,7 +4,7 @@ ghost use Rattle.std.specs.Prelude.{◌≡◌, None, Some, IfSome};
 use crate::acked::AckedOut;
 use crate::endpoint::Endpoint;
 use crate::kept::KeptFile;
-use crate::line::{Failure, Line};
+use crate::line::{FailedFile, Line};
 use crate::printer::Printer;
 use crate::room::{Room, is_left_for_room};
 use crate::standing::{Standing, is_overdue, passed_since};
@@ -198,7 +198,7 @@ impl<R: Wait + Clock + Copy> Door for Lines<R> {
 fn first_failure(
     a: (WorldFile, Option<&io::Error>),
     b: (WorldFile, Option<&io::Error>),
-) -> Option<Failure>
+) -> Option<FailedFile>
     ensures none { a.entry.1 ≡ None → b.entry.1 ≡ None → result ≡ None }
     ensures first { IfSome a.entry.1 (λ error. result
         ≡ Some (record { file = a.entry.0; error = error.now })) }
@@ -207,7 +207,7 @@ fn first_failure(
         ≡ Some (record { file = b.entry.0; error = error.now })) }
 {
     match (a, b) {
-        ((file, Some(error)), _) | (_, (file, Some(error))) => Some(Failure {
+        ((file, Some(error)), _) | (_, (file, Some(error))) => Some(FailedFile {
             file,
             error: *error,
         }),

@@ -34,7 +34,8 @@ use worker_threads::{NotStarted, Watch, into_files, start_world};
 use workers::Open;
 use world_actions::Refusal;
 use world_folder::{
-    Checked, Checks, Ending, Finding, NotRecovered, ServerEnding, WorldReport, recover_checked,
+    Checked, Checks, Ending, Failure, Finding, NotRecovered, ServerEnding, WorldReport,
+    recover_checked,
 };
 
 /// A world that was served, once its server has stopped.
@@ -53,7 +54,7 @@ pub enum WorldFailure<D: Disk + Drop> {
     /// The start of this world failed.
     NotStarted(WorldReport, FourFiles<D>, Refusal),
     /// No client can come to it, or no worker can be started.
-    NotOpened(WorldReport, FourFiles<D>, Ending),
+    NotOpened(WorldReport, FourFiles<D>, Failure),
     /// There are threads for some of its workers only, or the server was left while they run on.
     NotRun(WorldReport, Ending),
 }
@@ -250,9 +251,9 @@ fn serve_opened<
             }
             Err(reason) => Err(not_served(recovered, reason, front.losses())),
         },
-        Err(ending) => {
+        Err(failure) => {
             let files = into_files(opened.images, opened.log);
-            Err(WorldFailure::NotOpened(recovered, files, ending))
+            Err(WorldFailure::NotOpened(recovered, files, failure))
         }
     }
 }
@@ -281,13 +282,13 @@ fn not_served<D: Disk + Drop>(
 {
     match reason {
         NotServed::NotBegun(refused) => {
-            let ending = match refused.why {
-                NotStarted::NoMemory => Ending::Fault(Refusal::NoMemory),
-                NotStarted::NoThread => Ending::Server(ServerEnding::NoThread),
+            let failure = match refused.why {
+                NotStarted::NoMemory => Failure::Refused(Refusal::NoMemory),
+                NotStarted::NoThread => Failure::NoThread,
             };
             match refused.files {
-                Some(files) => WorldFailure::NotOpened(recovered, files, ending),
-                None => WorldFailure::NotRun(recovered, ending),
+                Some(files) => WorldFailure::NotOpened(recovered, files, failure),
+                None => WorldFailure::NotRun(recovered, Ending::Failed(failure)),
             }
         }
         NotServed::Left => WorldFailure::NotRun(recovered, ending_of_left(lost)),
@@ -303,16 +304,16 @@ impl<M: Method, D: Disk + Drop> Served<M, D> {
         ensures ends { EndsServing result }
     {
         if self.stopped.workers.log_writer.is_down() {
-            return Ending::Server(ServerEnding::LogDown);
+            return Ending::Stopped(ServerEnding::LogDown);
         }
         if self.stopped.workers.checkpointer.is_down() {
-            return Ending::Server(ServerEnding::ImagesDown);
+            return Ending::Stopped(ServerEnding::ImagesDown);
         }
         match self.stopped.accepted.closed {
             Closed::AllCame => Ending::Ran,
-            Closed::NoMemory => Ending::Fault(Refusal::NoMemory),
-            Closed::Failed(_) => Ending::Server(ServerEnding::ListenerFailed),
-            Closed::Left => Ending::Server(ServerEnding::LogDown),
+            Closed::NoMemory => Ending::Failed(Failure::Refused(Refusal::NoMemory)),
+            Closed::Failed(_) => Ending::Stopped(ServerEnding::ListenerFailed),
+            Closed::Left => Ending::Stopped(ServerEnding::LogDown),
         }
     }
 }

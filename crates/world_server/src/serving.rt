@@ -1,10 +1,12 @@
 //! A server of the world in a folder, from the opening of its files to their end.
-ghost use Rattle.std.specs.Prelude.{◌≡◌, ◌≤◌, false, None, IsTrue, IfOk, IfErr, IfSome};
+ghost use Rattle.std.specs.Prelude.{◌≡◌, ◌≢◌, ◌≤◌, false, None, IsTrue, IfOk, IfErr, IfSome};
 ghost use Rattle.std.specs.Prelude.{MatchResult};
-ghost use Rattle.disk_model.specs.FourFiles.{EachFile, KeepsFile};
+ghost use Rattle.disk_model.specs.FourFiles.{EachFile, KeepsFile, mapped};
 ghost use Rattle.workers.specs.AskOrder.{PlaysInTurn};
-ghost use Rattle.world_folder.specs.Ending.{IsFault};
+ghost use Rattle.world_folder.specs.Ending.{ReportsFailure};
+ghost use Rattle.world_folder.specs.Failing.{first_failure};
 ghost use Rattle.world_folder.specs.Lost.{lost_in};
+ghost use Rattle.world_folder.specs.declared.lost.Lost.{Lost};
 ghost use Rattle.world_server.specs.FolderRun.{IfServed, LeavesFiles, IsLeftBy, FollowsService};
 ghost use Rattle.world_server.specs.FolderRun.{HoldsFiles};
 ghost use Rattle.world_server.specs.Serving.{EndsServing, StopsWith, StopsAndPrints};
@@ -30,8 +32,8 @@ use std::time::Clock;
 use worker_threads::Watch;
 use world_actions::Refusal;
 use world_folder::{
-    Checks, Ending, Folder, Guard, NotRecovered, OnLoss, SystemFolder, WorldFault, WorldReport,
-    failure_of, open_files, stands_in,
+    Checks, Ending, Failure, Folder, Guard, NotRecovered, OnLoss, SystemFolder, WorldFault,
+    WorldReport, failure_of, open_files, stands_in,
 };
 
 /// A server's run over the four files of a folder, from their opening to its end.
@@ -76,20 +78,16 @@ pub fn serve<
         Kind::Zigzag => serve_by::<R, Zig>(rt, service),
         Kind::PingPong => serve_by::<R, Pong>(rt, service),
     };
-    match served {
-        Ok(ending) => ending,
-        Err(ending) => ending,
-    }
+    Ending::of_either(served)
 }
 
 // Serves by this method, which has to be the one that is asked for.
 fn serve_by<R: Runtime + ThreadRuntime + Copy + Send + 'static, M: Method + Send + 'static>(
     rt: &R,
     service: &Service<'_>,
-) -> Result<Ending, Ending>
+) -> Result<Ending, Failure>
     requires { service.now.method ≡ M.KIND }
     ensures ok { IfOk result EndsServing }
-    ensures err { IfErr result IsFault }
 {
     let streams = SystemStreams::start(rt, service)?;
     let mut folder = SystemFolder::new(rt, service.folder);
@@ -107,7 +105,7 @@ pub fn serve_folder<
     W: Watch<D> + Door + Clone + Drop + Send + 'static,
     F: Folder<File = D>,
     S: IntoFrontend<M, D, W> + Drop,
->(rt: &R, folder: &mut F, streams: S, service: &Service<'_>) -> Result<FolderRun<M, D>, Ending>
+>(rt: &R, folder: &mut F, streams: S, service: &Service<'_>) -> Result<FolderRun<M, D>, Failure>
     requires method { service.now.method ≡ M.KIND }
     requires streams { S.serves streams service.now }
     ensures held { IsTrue F.honest → IfOk result (λ run.
@@ -130,13 +128,12 @@ pub fn serve_folder<
         served.stopped.workers.checkpointer.images.keeper.phase served.stopped.accepted.closed
         run.ending)) }
     ensures ends { IfOk result (λ run. EndsServing run.ending) }
-    ensures fault { IfErr result IsFault }
 {
     let files = open_files(folder)?;
     let opened = Snapshot::of(&files);
     let (left, ending) = match folder.read_guard() {
         Ok(guard) => serve_files(rt, folder, streams, service, files, guard),
-        Err(ending) => (Left::Read(files), ending),
+        Err(failure) => (Left::Read(files), Ending::Failed(failure)),
     };
     Ok(FolderRun {
         opened,
@@ -183,7 +180,10 @@ fn serve_files<
     let mut files = files;
     let (pace, valve) = match hold_back(folder.alloc(), &mut files) {
         Ok(held_back) => held_back,
-        Err(_) => return (Left::Read(files), Ending::Fault(Refusal::NoMemory)),
+        Err(_) => {
+            let failure = Failure::Refused(Refusal::NoMemory);
+            return (Left::Read(files), Ending::Failed(failure));
+        }
     };
     let mut front = streams.into_frontend(guard, pace, valve);
     let (every, admission, checks) = (
@@ -238,56 +238,59 @@ fn ended<M: Method, D: ServedDisk + Drop, F: Folder<File = D>>(
             (Left::Served(served), ending)
         }
         Err(WorldFailure::NotRecovered(mut files, why)) => {
-            let ending = ending_of_files(folder, &mut files, why);
-            (Left::Read(files), ending)
+            let failure = failure_of_files(folder, &mut files, why);
+            (Left::Read(files), Ending::Failed(failure))
         }
         Err(WorldFailure::NotStarted(world, files, refusal)) => {
-            let ending = not_started(folder, &files, refusal);
-            (Left::Recovered(world, files), ending)
+            let failure = not_started(folder, &files, refusal);
+            (Left::Recovered(world, files), Ending::Failed(failure))
         }
-        Err(WorldFailure::NotOpened(world, files, ending)) => {
-            (Left::Recovered(world, files), ending)
+        Err(WorldFailure::NotOpened(world, files, failure)) => {
+            (Left::Recovered(world, files), Ending::Failed(failure))
         }
         Err(WorldFailure::NotRun(world, ending)) => (Left::Given(world), ending),
     }
 }
 
-// How the program ends if no world is recovered from the files, which it may read again.
-fn ending_of_files<F: Folder>(
+// The failure of a server that recovers no world from the files, which it may read again.
+fn failure_of_files<F: Folder>(
     folder: &F,
     files: &mut FourFiles<F::File>,
     why: NotRecovered,
-) -> Ending
+) -> Failure
+    ensures lost { (lost : Lost) → why ≡ NotRecovered.Lost lost
+        → result ≡ Failure.NoWorld (WorldFault.Lost lost) }
     ensures kept { IsTrue F.File.honest → EachFile files.old files.new (KeepsFile F.File.Disk) }
-    ensures fault { IsFault result }
 {
     match why {
-        NotRecovered::Lost(lost) => Ending::NoWorld(WorldFault::Lost(lost)),
+        NotRecovered::Lost(lost) => Failure::NoWorld(WorldFault::Lost(lost)),
         NotRecovered::Refused(Refusal::Device) => failure_of(folder, files),
-        NotRecovered::Refused(refusal) => ending_of_damage(folder.alloc(), files, refusal),
+        NotRecovered::Refused(refusal) => failure_of_damage(folder.alloc(), files, refusal),
     }
 }
 
-// How the program ends if recovery refuses the files: it names the file that is damaged.
-fn ending_of_damage<D: Disk>(alloc: Global, files: &mut FourFiles<D>, refusal: Refusal) -> Ending
+// The failure of a server whose recovery refuses the files: it names the file that is damaged.
+fn failure_of_damage<D: Disk>(alloc: Global, files: &mut FourFiles<D>, refusal: Refusal) -> Failure
     ensures kept { IsTrue D.honest → EachFile files.old files.new (KeepsFile D.Disk) }
-    ensures fault { IsFault result }
 {
     if let Refusal::NoImage | Refusal::BadImage | Refusal::BadLog = refusal
         && let Ok(bytes) = read_files(alloc, files)
         && let Err(fault) = stands_in(alloc, &bytes, Checks::of(OnLoss::Warn))
     {
-        return Ending::NoWorld(fault);
+        return Failure::NoWorld(fault);
     }
-    Ending::Fault(refusal)
+    Failure::Refused(refusal)
 }
 
-// How the program ends if a world's start failed: it names the file that failed.
-fn not_started<F: Folder>(folder: &F, files: &FourFiles<F::File>, refusal: Refusal) -> Ending
-    ensures { IsFault result }
+// The failure of a server whose start failed: it names the file that failed.
+fn not_started<F: Folder>(folder: &F, files: &FourFiles<F::File>, refusal: Refusal) -> Failure
+    ensures device { IsTrue F.File.honest → refusal ≡ Refusal.Device
+        → ReportsFailure (F.path folder.now) (first_failure (mapped F.File.failure files.now))
+        result }
+    ensures other { refusal ≢ Refusal.Device → result ≡ Failure.Refused refusal }
 {
     match refusal {
         Refusal::Device => failure_of(folder, files),
-        refusal => Ending::Fault(refusal),
+        refusal => Failure::Refused(refusal),
     }
 }

@@ -87,13 +87,13 @@ pub fn ending_of_left(lost: Losses) -> Ending
     ensures ends { EndsServing result }
 {
     if lost.log {
-        return Ending::Server(ServerEnding::LogDown);
+        return Ending::Stopped(ServerEnding::LogDown);
     }
     if lost.images {
-        return Ending::Server(ServerEnding::ImagesDown);
+        return Ending::Stopped(ServerEnding::ImagesDown);
     }
     if lost.listener {
-        return Ending::Server(ServerEnding::ListenerFailed);
+        return Ending::Stopped(ServerEnding::ListenerFailed);
     }
     Ending::Ran
 }

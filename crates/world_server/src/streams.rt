@@ -1,6 +1,6 @@
 //! The two standard streams of a server.
 ghost use Rattle.std.specs.Prelude.{◌≡◌, ◌≢◌, Ok, Err, IfOk, IfErr};
-ghost use Rattle.world_folder.specs.Ending.{IsFault};
+ghost use Rattle.world_folder.specs.Ending.{IsFailed};
 ghost use Rattle.world_server.specs.Paths.{ArePathsIn, ArePathsOf};
 ghost use Rattle.world_server.specs.Serving.{EndsServing};
 
@@ -16,7 +16,7 @@ use std::sync::Wait;
 use std::thread::Threads;
 use std::time::Clock;
 use worker_threads::NotStarted;
-use world_folder::{Ending, path_of};
+use world_folder::{Ending, Failure, path_of};
 
 /// Standard output and standard error, each with a thread that prints its lines.
 #[derive(Drop)]
@@ -58,7 +58,6 @@ impl Streams {
     pub fn finish<R: Wait + Clock>(self, rt: &R, ending: Ending) -> Ending
         ensures ends { EndsServing ending → EndsServing result }
         ensures other { ending ≢ Ending.Ran → result ≡ ending }
-        ensures fault { IsFault ending → IsFault result }
     {
         let Streams {
             output,
@@ -118,12 +117,11 @@ fn note_at_once<R: Eprint + AllocGlobal + Copy>(rt: &R, service: &Service<'_>, l
 fn ending_after_output(ending: Ending, printed: io::Result<()>) -> Ending
     ensures ends { EndsServing ending → EndsServing result }
     ensures other { ending ≢ Ending.Ran → result ≡ ending }
-    ensures fault { IsFault ending → IsFault result }
     ensures well { printed ≡ Ok tt → result ≡ ending }
-    ensures unheard { ending ≡ Ending.Ran → IfErr printed (λ _. IsFault result) }
+    ensures unheard { ending ≡ Ending.Ran → IfErr printed (λ _. IsFailed result) }
 {
     match (ending, printed) {
-        (Ending::Ran, Err(error)) => Ending::from(error),
+        (Ending::Ran, Err(error)) => Ending::Failed(Failure::from(error)),
         (ending, _) => ending,
     }
 }

@@ -1,6 +1,5 @@
 //! The front of a server on the system: its standard streams, and its port or its socket.
 ghost use Rattle.std.specs.Prelude.{◌≡◌, ◌≢◌, IfErr, IfOk, IfSome};
-ghost use Rattle.world_folder.specs.Ending.{IsFault};
 ghost use Rattle.world_server.specs.FolderRun.{seconds_of};
 ghost use Rattle.world_server.specs.Serving.{EndsServing};
 
@@ -36,7 +35,7 @@ use worker_steps::Opened;
 use worker_threads::NotStarted;
 use workers::ImageWriter;
 use world_actions::Refusal;
-use world_folder::{Ending, Guard, NoPort, ServerEnding, blame, path_of};
+use world_folder::{Ending, Failure, Guard, NoPort, blame, path_of};
 
 /// For how many seconds the end of the program waits for the last guard.
 const PATIENCE_SECONDS: u64 = 1;
@@ -78,19 +77,18 @@ pub struct SystemStreams<'a, R: Wait + Clock + Net + Files + Copy> {
 
 impl<'a, R: Runtime + ThreadRuntime + Copy + Send + 'static> SystemStreams<'a, R> {
     /// Starts the threads of the streams.
-    pub fn start(rt: &R, service: &Service<'a>) -> Result<Self, Ending>
+    pub fn start(rt: &R, service: &Service<'a>) -> Result<Self, Failure>
         ensures service { IfOk result (λ made. made.service ≡ service.now) }
         ensures reports { IfOk result (λ made. IfSome made.streams
             (λ _. seconds_of made.reports ≡ service.now.report)) }
-        ensures fault { IfErr result IsFault }
     {
         let Ok(standing) = Arc::new(rt.alloc(), Standing::new()) else {
-            return Err(Ending::Fault(Refusal::NoMemory));
+            return Err(Failure::Refused(Refusal::NoMemory));
         };
         let (streams, reports, watchdog) = match start_threads(rt, service) {
             Ok((streams, reports, watchdog)) => (Some(streams), reports, Some(watchdog)),
             Err(NotStarted::NoThread) => (None, None, None),
-            Err(NotStarted::NoMemory) => return Err(Ending::Fault(Refusal::NoMemory)),
+            Err(NotStarted::NoMemory) => return Err(Failure::Refused(Refusal::NoMemory)),
         };
         Ok(SystemStreams {
             rt: *rt,
@@ -163,7 +161,7 @@ impl<'a, R: Runtime + ThreadRuntime + Copy + Send + 'static, M: Method> Frontend
         note_line(&self.rt, &self.service, &self.streams, line);
     }
 
-    fn open(&mut self, opened: &Opened<M, FileDisk>) -> Result<(Listener, Lines<R>), Ending> {
+    fn open(&mut self, opened: &Opened<M, FileDisk>) -> Result<(Listener, Lines<R>), Failure> {
         let (listener, endpoint, lines, guarded) = let_in(self, opened)?;
         self.endpoint = Some(endpoint);
         self.guarded = guarded;
@@ -214,11 +212,9 @@ type LetIn<R> = (
 fn let_in<R: ThreadRuntime + Files<File = File> + AllocGlobal + Copy, M: Method>(
     front: &SystemFrontend<'_, R>,
     world: &Opened<M, FileDisk>,
-) -> Result<LetIn<R>, Ending>
-    ensures { IfErr result IsFault }
-{
+) -> Result<LetIn<R>, Failure> {
     let Some(streams) = &front.streams else {
-        return Err(Ending::Server(ServerEnding::NoThread));
+        return Err(Failure::NoThread);
     };
     let (listener, endpoint) = listen(&front.rt, front.service.address)?;
     match lines_of(front, streams, endpoint.clone()?, world) {
@@ -241,9 +237,7 @@ fn lines_of<R: Wait + Clock + LookUp + Net + Files<File = File> + AllocGlobal + 
     streams: &Streams,
     endpoint: Arc<Endpoint, Global>,
     world: &Opened<M, FileDisk>,
-) -> Result<(Lines<R>, Option<Receiver<()>>), Ending>
-    ensures { IfErr result IsFault }
-{
+) -> Result<(Lines<R>, Option<Receiver<()>>), Failure> {
     let alloc = front.rt.alloc();
     let pulse = pulse_for(front, world)?;
     let files = kept_files(alloc, front.service.folder, &world.images, &world.log)?;
@@ -303,9 +297,7 @@ fn guard_for<R: Wait + Clock + LookUp + Net + Files<File = File> + AllocGlobal +
     streams: &Streams,
     world: &Opened<M, FileDisk>,
     pulse: &Option<Arc<Pulse, Global>>,
-) -> Result<Guarded, Ending>
-    ensures { IfErr result IsFault }
-{
+) -> Result<Guarded, Failure> {
     let (rt, service) = (&front.rt, &front.service);
     let Some(pulse) = pulse else {
         return Ok((None, None));
@@ -362,9 +354,7 @@ fn is_guarded<R: Wait + Clock + Net + Files + Copy>(front: &SystemFrontend<'_, R
 fn pulse_for<R: Wait + Clock + Net + Files + AllocGlobal + Copy, M: Method>(
     front: &SystemFrontend<'_, R>,
     world: &Opened<M, FileDisk>,
-) -> Result<Option<Arc<Pulse, Global>>, Ending>
-    ensures { IfErr result IsFault }
-{
+) -> Result<Option<Arc<Pulse, Global>>, Failure> {
     if front.reports.is_none() && !is_guarded(front) {
         return Ok(None);
     }
@@ -398,15 +388,13 @@ fn start_threads<R: Runtime + ThreadRuntime + Copy + Send + 'static>(
 fn listen<R: Net<Listener = TcpListener, Stream = TcpStream> + Files<File = File> + AllocGlobal>(
     rt: &R,
     address: Address<'_>,
-) -> Result<(Listener, Arc<Endpoint, Global>), Ending>
-    ensures { IfErr result IsFault }
-{
+) -> Result<(Listener, Arc<Endpoint, Global>), Failure> {
     let (listener, endpoint) = match address {
         Address::Port(port) => match LocalPort(port).listen(rt) {
             Ok((listener, chosen)) => (listener, Endpoint::Port(chosen)),
             Err(error) => {
                 let failed = NoPort { port, error };
-                return Err(Ending::Server(ServerEnding::NoPort(failed)));
+                return Err(Failure::NoPort(failed));
             }
         },
         Address::Socket { path, mode } => {
@@ -418,7 +406,7 @@ fn listen<R: Net<Listener = TcpListener, Stream = TcpStream> + Files<File = File
         Ok(endpoint) => Ok((listener, endpoint)),
         Err(failed) => {
             failed.value.leave(rt);
-            Err(Ending::Fault(Refusal::NoMemory))
+            Err(Failure::Refused(Refusal::NoMemory))
         }
     }
 }

@@ -34,7 +34,7 @@ use std::time::Clock;
 use streams::run_steps;
 use world_actions::Refusal;
 use world_folder::{
-    Ending, Exit, FirstWords, StandardStream, StreamFailure, SystemFolder, blame, create,
+    Ending, Exit, Failure, FirstWords, StandardStream, StreamFailure, SystemFolder, blame, create,
     create_of_words, guarded,
 };
 use world_reports::{back_up, inspect, recover, salvage_world, status};
@@ -45,7 +45,7 @@ fn main(rt: HostRuntime) -> Exit {
     let null = blame(rt.alloc(), "/dev", "null", take_standard_streams(&rt));
     let _null = match null {
         Ok(null) => null,
-        Err(ending) => return Exit::plain(ending),
+        Err(failure) => return Exit::plain(Ending::Failed(failure)),
     };
     let words = match command_words(&rt) {
         Ok(words) => words,
@@ -83,7 +83,7 @@ fn run<R: Input + Print + Eprint + Clock + Files<File = File> + AllocGlobal + Cl
         } => {
             let mut system = SystemFolder::new(rt, folder);
             let made = create(&mut system, FirstWords::Zeros(cells));
-            let ending = Ending::of_command(made.map_err(|failed: _| failed.ending));
+            let ending = Ending::of_command(made.map_err(|failed: _| failed.failure));
             guarded(rt, folder, guards, ending)
         }
         Invocation::CreateOfWords {
@@ -94,7 +94,7 @@ fn run<R: Input + Print + Eprint + Clock + Files<File = File> + AllocGlobal + Cl
         } => {
             let mut system = SystemFolder::new(rt, folder);
             let made = create_of_words(rt, &mut system, words, asked);
-            let ending = Ending::of_command(made.map_err(|failed: _| failed.ending));
+            let ending = Ending::of_command(made.map_err(|failed: _| failed.failure));
             guarded(rt, folder, guards, ending)
         }
         Invocation::Recover { folder, on_loss } => {
@@ -131,18 +131,20 @@ fn run<R: Input + Print + Eprint + Clock + Files<File = File> + AllocGlobal + Cl
 fn not_run(reason: NotRun) -> Ending
     ensures reported { reason ≡ NotRun.HelpPrinted → result ≡ Ending.HelpPrinted }
     ensures unprinted { (error : Error) → reason ≡ NotRun.Unprinted error
-        → result ≡ Ending.Stream (record { stream = StandardStream.Output; error = error }) }
+        → result ≡ Ending.Failed (Failure.Stream
+        (record { stream = StandardStream.Output; error = error })) }
     ensures mistaken { reason ≡ NotRun.Mistaken → result ≡ Ending.Mistaken }
-    ensures memory { reason ≡ NotRun.NoMemory → result ≡ Ending.Fault Refusal.NoMemory }
+    ensures memory { reason ≡ NotRun.NoMemory
+        → result ≡ Ending.Failed (Failure.Refused Refusal.NoMemory) }
 {
     match reason {
         NotRun::HelpPrinted => Ending::HelpPrinted,
-        NotRun::Unprinted(error) => Ending::Stream(StreamFailure {
+        NotRun::Unprinted(error) => Ending::Failed(Failure::Stream(StreamFailure {
             stream: StandardStream::Output,
             error,
-        }),
+        })),
         NotRun::Mistaken => Ending::Mistaken,
-        NotRun::NoMemory => Ending::Fault(Refusal::NoMemory),
+        NotRun::NoMemory => Ending::Failed(Failure::Refused(Refusal::NoMemory)),
     }
 }
 

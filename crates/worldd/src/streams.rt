@@ -6,7 +6,7 @@ use std::alloc::Global;
 use std::io::{self, ErrorKind, Read, Write};
 use steps::run_script;
 use world_actions::Refusal;
-use world_folder::{Ending, StandardStream, StreamFailure};
+use world_folder::{Ending, Failure, StandardStream, StreamFailure};
 
 /// A stream, and why its last call that failed did.
 #[derive(Drop)]
@@ -72,17 +72,16 @@ fn ending_of(
 ) -> Ending
     ensures well { IsOk run → result ≡ Ending.Ran }
     ensures fault { (refusal : Reason) → run ≡ Err refusal → refusal ≢ Refusal.Device
-        → result ≡ Ending.Fault refusal }
+        → result ≡ Ending.Failed (Failure.Refused refusal) }
 {
     match (run, input, output) {
-        (Err(Refusal::Device), Some(error), _) => Ending::Stream(StreamFailure {
-            stream: StandardStream::Input,
-            error,
-        }),
-        (Err(Refusal::Device), None, Some(error)) => Ending::Stream(StreamFailure {
-            stream: StandardStream::Output,
-            error,
-        }),
+        (Err(Refusal::Device), Some(error), _) => failed_stream(StandardStream::Input, error),
+        (Err(Refusal::Device), None, Some(error)) => failed_stream(StandardStream::Output, error),
         (run, _, _) => Ending::of_run(run),
     }
+}
+
+// How the program ends if a stream failed.
+fn failed_stream(stream: StandardStream, error: io::Error) -> Ending {
+    Ending::Failed(Failure::Stream(StreamFailure { stream, error }))
 }

@@ -12,7 +12,7 @@ use std::io::{self, ErrorKind};
 use std::process::{ExitCode, Termination};
 use std::test::Fail;
 use world_actions::Refusal;
-use world_folder::{Ending, Exit, OnLoss, ServerEnding, Statuses, Unwell};
+use world_folder::{Ending, Exit, Failure, OnLoss, ServerEnding, Statuses, Unwell};
 use world_server::{Clients, Every};
 
 // Keeps all that is printed.
@@ -117,7 +117,11 @@ fn faults_are_reported_by_code_and_in_words(rt: HostRuntime) {
             "fault 18\nworldd: the device failed\n",
         ),
     ] {
-        let (status, errors) = reported(rt.alloc(), Ending::Fault(refusal), statuses);
+        let (status, errors) = reported(
+            rt.alloc(),
+            Ending::Failed(Failure::Refused(refusal)),
+            statuses,
+        );
         assert!(rt;
             status == ExitCode::from(code) && errors.as_str() == text,
             "{errors}"
@@ -138,7 +142,7 @@ fn what_is_down_is_reported_by_the_status(rt: HostRuntime) {
         (ServerEnding::ImagesDown, Statuses::Plain, 11, ""),
         (ServerEnding::LogDown, Statuses::Plain, 12, ""),
     ] {
-        let (status, errors) = reported(rt.alloc(), Ending::Server(ending), statuses);
+        let (status, errors) = reported(rt.alloc(), Ending::Stopped(ending), statuses);
         assert!(rt;
             status == ExitCode::from(code) && errors.as_str() == text,
             "{errors}"
@@ -245,8 +249,13 @@ fn without_memory(alloc: Global) -> ([Ending; 2], String) {
 fn want_of_memory_is_a_fault(rt: HostRuntime) {
     let (endings, errors) = without_memory(rt.alloc());
     let [in_line, in_words] = &endings;
-    assert!(rt; matches!(in_line, Ending::Fault(Refusal::NoMemory)));
-    assert!(rt; matches!(in_words, Ending::Fault(Refusal::NoMemory)));
+    assert!(rt; matches!(in_line, Ending::Failed(Failure::Refused(Refusal::NoMemory))));
+    assert!(rt;
+        matches!(
+            in_words,
+            Ending::Failed(Failure::Refused(Refusal::NoMemory))
+        )
+    );
     assert!(rt; errors.is_empty(), "{errors}");
 }
 

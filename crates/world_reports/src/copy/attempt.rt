@@ -2,7 +2,7 @@
 ghost use Rattle.std.specs.Prelude.{◌≡◌, ◌∷◌, true, false, length, IsTrue, IfOk, IfErr, OnOk};
 ghost use Rattle.disk_model.specs.Disk.{Length};
 ghost use Rattle.disk_model.specs.FourFiles.{EachFile, mapped};
-ghost use Rattle.world_folder.specs.Ending.{IsFault, NamesFile};
+ghost use Rattle.world_folder.specs.Ending.{NamesFile};
 ghost use Rattle.world_folder.specs.Fault.{AreRead};
 ghost use Rattle.world_folder.specs.Heads.{IsHeadAsked, summary_of};
 ghost use Rattle.world_folder.specs.History.{Read};
@@ -15,7 +15,7 @@ use crate::copy::Seen;
 use action_log::{SEGMENT_BYTES_MAX, extent_of};
 use disk_model::{FourFiles, WorldFile};
 use std::io;
-use world_folder::{Ending, Reading, Source, SourceFile, Summary, summary_of};
+use world_folder::{Failure, Reading, Source, SourceFile, Summary, summary_of};
 
 /// How often a copy is begun anew.
 const TRIES: u32 = 1_000;
@@ -36,10 +36,9 @@ pub enum Attempt {
 
 /// Copies the files of a folder, opened so. It takes no lock, and a server may write them
 /// meanwhile.
-pub fn copy_files<F: Source>(folder: &mut F, how: Reading) -> Result<Attempt, Ending>
+pub fn copy_files<F: Source>(folder: &mut F, how: Reading) -> Result<Attempt, Failure>
     ensures copied { IsTrue F.honest → IsTrue F.File.honest → IfOk result (λ attempt.
         IfCopied attempt (IsCopied (F.history folder.old) (F.history folder.new))) }
-    ensures fault { IfErr result IsFault }
 {
     let mut files = open_each(folder, how)?;
     copy_from(folder, &mut files)
@@ -49,10 +48,9 @@ pub fn copy_files<F: Source>(folder: &mut F, how: Reading) -> Result<Attempt, En
 fn copy_from<F: Source>(
     folder: &F,
     files: &mut FourFiles<SourceFile<F::File>>,
-) -> Result<Attempt, Ending>
+) -> Result<Attempt, Failure>
     ensures copied { IsTrue F.File.honest → IfOk result (λ attempt.
         IfCopied attempt (IsCopyOf (contents_of F.File.content files.old))) }
-    ensures fault { IfErr result IsFault }
 {
     let mut blanks = 0;
     for number in 1..=TRIES {
@@ -72,11 +70,10 @@ fn copy_from<F: Source>(
 fn open_each<F: Source>(
     folder: &mut F,
     how: Reading,
-) -> Result<FourFiles<SourceFile<F::File>>, Ending>
+) -> Result<FourFiles<SourceFile<F::File>>, Failure>
     ensures opened { IsTrue F.honest
         → IfOk result (λ files. F.history folder.new ≡ reads
         (contents_of F.File.content files) (F.history folder.old)) }
-    ensures fault { IfErr result IsFault }
 {
     Ok(FourFiles {
         image_a: open_one(folder, WorldFile::ImageA, how)?,
@@ -90,11 +87,10 @@ fn open_one<F: Source>(
     folder: &mut F,
     file: WorldFile,
     how: Reading,
-) -> Result<SourceFile<F::File>, Ending>
+) -> Result<SourceFile<F::File>, Failure>
     ensures opened { IsTrue F.honest → IfOk result (λ opened.
         F.history folder.new ≡ Read file (F.File.content opened.disk) ∷ F.history folder.old) }
     ensures named { IfErr result (NamesFile (F.path folder.old) file) }
-    ensures fault { IfErr result IsFault }
 {
     let opened = folder.open_to_read(file, how);
     folder.blame(file.name(), opened)
@@ -106,7 +102,7 @@ fn try_copy<F: Source>(
     folder: &F,
     files: &mut FourFiles<SourceFile<F::File>>,
     number: u32,
-) -> Result<Attempt, Ending>
+) -> Result<Attempt, Failure>
     ensures copied { IsTrue F.File.honest → IfOk result (λ attempt.
         IfCopied attempt (IsCopyOf (contents_of F.File.content files.old))) }
     ensures looked { IfOk result (λ attempt.
@@ -114,7 +110,6 @@ fn try_copy<F: Source>(
     ensures kept { IsTrue F.File.honest
         → OnOk result (contents_of F.File.content files.new
         ≡ contents_of F.File.content files.old) }
-    ensures fault { IfErr result IsFault }
 {
     let before = read_each(folder, files, false)?;
     if summary_of(&before).newest.is_none() {
@@ -194,7 +189,7 @@ fn read_each<F: Source>(
     folder: &F,
     files: &mut FourFiles<SourceFile<F::File>>,
     whole: bool,
-) -> Result<FourFiles<Vec<u8>>, Ending>
+) -> Result<FourFiles<Vec<u8>>, Failure>
     ensures parts { IsTrue F.File.honest → IfOk result
         (AreParts whole (contents_of F.File.content files.old)) }
     ensures asked { whole ≡ false → IfOk result (λ heads.
@@ -202,7 +197,6 @@ fn read_each<F: Source>(
     ensures kept { IsTrue F.File.honest
         → OnOk result (contents_of F.File.content files.new
         ≡ contents_of F.File.content files.old) }
-    ensures fault { IfErr result IsFault }
 {
     Ok(FourFiles {
         image_a: read_one(folder, WorldFile::ImageA, &mut files.image_a, whole)?,
@@ -217,7 +211,7 @@ fn read_one<F: Source>(
     file: WorldFile,
     from: &mut SourceFile<F::File>,
     whole: bool,
-) -> Result<Vec<u8>, Ending>
+) -> Result<Vec<u8>, Failure>
     ensures part { IsTrue F.File.honest → IfOk result (λ bytes.
         IsPart file whole (F.File.content from.old.disk) bytes.items) }
     ensures asked { whole ≡ false → IfOk result (λ head.
@@ -225,7 +219,6 @@ fn read_one<F: Source>(
     ensures kept { IsTrue F.File.honest
         → OnOk result (F.File.content from.new.disk ≡ F.File.content from.old.disk) }
     ensures named { IfErr result (NamesFile (F.path folder.now) file) }
-    ensures fault { IfErr result IsFault }
 {
     let bytes = if whole {
         from.read_whole(folder.alloc(), file)
@@ -239,7 +232,7 @@ fn read_one<F: Source>(
 fn lengths_of<F: Source>(
     folder: &F,
     files: &mut FourFiles<SourceFile<F::File>>,
-) -> Result<FourFiles<u64>, Ending>
+) -> Result<FourFiles<u64>, Failure>
     ensures lengths { IsTrue F.File.honest → IfOk result (λ lengths.
         lengths ≡ mapped length (contents_of F.File.content files.old)) }
     ensures asked { OnOk result
@@ -247,7 +240,6 @@ fn lengths_of<F: Source>(
     ensures kept { IsTrue F.File.honest
         → OnOk result (contents_of F.File.content files.new
         ≡ contents_of F.File.content files.old) }
-    ensures fault { IfErr result IsFault }
 {
     Ok(FourFiles {
         image_a: length_of(folder, WorldFile::ImageA, &mut files.image_a)?,
@@ -261,14 +253,13 @@ fn length_of<F: Source>(
     folder: &F,
     file: WorldFile,
     from: &mut SourceFile<F::File>,
-) -> Result<u64, Ending>
+) -> Result<u64, Failure>
     ensures length { IsTrue F.File.honest
         → IfOk result (λ size. size ≡ length (F.File.content from.old.disk)) }
     ensures asked { OnOk result (F.File.called from.old.disk Length true from.new.disk) }
     ensures kept { IsTrue F.File.honest
         → OnOk result (F.File.content from.new.disk ≡ F.File.content from.old.disk) }
     ensures named { IfErr result (NamesFile (F.path folder.now) file) }
-    ensures fault { IfErr result IsFault }
 {
     let size = from.read_length();
     folder.blame(file.name(), size)

@@ -11,7 +11,7 @@ returns-in_err-unguarded-clause-left g c = λ honest honest_files.
 
 pub returns-in-Err-clause-left : goal.returns-in-Err-clause-left
 returns-in-Err-clause-left g c = λ honest honest_files. inr (record {
-  of_print = c.ending_of_print.ensures.print;
+  of_print = c.failure_of_print.ensures.print;
   made = c.in_ok-files.files;
   all = search rules;
   world = subst (λ (acts : List Act). IsMadeIn g.F.Folder.identity g.F.File.Disk c.args.words c.in_ok-files.files (g.F.Source.history c.args.folder.now) acts)

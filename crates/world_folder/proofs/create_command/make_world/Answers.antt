@@ -19,7 +19,7 @@ returns-in-Ok-clause-made g c = λ honest honest_files.
 pub returns-in-Err-make_in-clause-refused : goal.returns-in-Err-make_in-clause-refused
 returns-in-Err-make_in-clause-refused g c = λ honest honest_files occupied.
     let taken = c.in_default.ensures.taken honest honest_files c.all_of.result c.all_of.ensures in
-    absurd (taken_not_occupied g.F.File.Disk g.F.Folder.identity c.path.result.now c.all_of.result _ _ c.in-Err-make_in.ending _
+    absurd (taken_not_occupied g.F.File.Disk g.F.Folder.identity c.path.result.now c.all_of.result _ _ c.in-Err-make_in.failure _
     taken (c.in-Err-make_in.ensures.unmade honest_files).reported refl occupied)
 
 pub returns-in-Err-make_in-clause-left : goal.returns-in-Err-make_in-clause-left
@@ -27,5 +27,5 @@ returns-in-Err-make_in-clause-left g c = λ honest honest_files.
     let disk = g.F.File.Disk in
     let taken = c.in_default.ensures.taken honest honest_files c.all_of.result c.all_of.ensures in
     let unmade = c.in-Err-make_in.ensures.unmade honest_files in
-    left_taken g.F.Folder.identity disk c.args.words c.all_of.result c.in-Err-make_in.files _ c.path.result.now c.in-Err-make_in.ending _ _ (search rules)
+    left_taken g.F.Folder.identity disk c.args.words c.all_of.result c.in-Err-make_in.files _ c.path.result.now c.in-Err-make_in.failure _ _ (search rules)
     taken unmade c.in-Err-make_in.ensures.device

@@ -1,7 +1,7 @@
 use Rattle.std.proofs.Common.{Err, ap, sym, subst}
 use Rattle.world_start.proofs.Carried.{read_closed}
 use Rattle.world_folder.specs.NewWorld.{IsMadeOf, IsUnmade}
-use Rattle.world_folder.specs.declared.ending.Ending.TheVariants.{Fault}
+use Rattle.world_folder.specs.declared.failure.Failure.TheVariants.{Refused}
 use Rattle.world_folder.specs.declared.new_world.FirstWords.{FirstWords}
 use Rattle.world_folder.proofs.NewWorldLemmas.{words_made, unwritten, zeros_unmade}
 use Rattle.world_folder.proofs.new_world.write_first.Goals as goal
@@ -24,5 +24,5 @@ returns-clause-unmade g c = λ honest folder.
     let bytes = c.args.bytes in
     let refused = c.in-Err.ensures in
     let closed = read_closed g.D.Disk c.args.files bytes.image_a.items bytes.image_b.items bytes.log_a.items bytes.log_b.items (c.requires.read honest) c.requires.closed in
-    subst (λ (words : FirstWords). IsUnmade g.D.Disk folder c.args.files words (Fault c.in-Err.refusal) (record c.args.files { image_a = c.write_words.new.image })) (sym c.in-Listed.is)
+    subst (λ (words : FirstWords). IsUnmade g.D.Disk folder c.args.files words (Refused c.in-Err.refusal) (record c.args.files { image_a = c.write_words.new.image })) (sym c.in-Listed.is)
     (unwritten g.D.Disk folder c.in-Listed.words c.args.files c.write_words.new.image c.in-Err.refusal closed refused.refused (λ is. refused.memory (ap Err is)) (refused.left honest))

@@ -1,7 +1,7 @@
 use Rattle.world_reports.proofs.inspection.print_files.Goals as goal
 
-pub returns-clause-printed : goal.returns-clause-printed
-returns-clause-printed g c = λ honest.
+pub returns : goal.returns
+returns g c = record { printed = λ honest.
     let history = g.F.Source.history in
     record {
       lines = record { image_a = c.in_ok-file_line.field-0; image_b = c.in_ok-file_line-2.field-0; log_a = c.in_ok-file_line-3.field-0; log_b = c.in_ok-file_line-4.field-0 };
@@ -18,4 +18,4 @@ returns-clause-printed g c = λ honest.
         log_a = c.in_ok-print-3.ensures.printed honest;
         log_b = c.in_ok-print-4.ensures.printed honest;
       };
-    }
+    } }
