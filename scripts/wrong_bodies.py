@@ -35,7 +35,7 @@ TOP = pathlib.Path(__file__).resolve().parent.parent
 PROMISES = TOP / "scripts" / "wrong_bodies.tsv"
 FOLDERS = ("must-fail", "wrong-bodies", "trial-bodies")
 # The most wrong bodies in one check.
-MOST = 10
+MOST = 40
 # The most goals that are printed for one wrong body.
 GOALS_SHOWN = 3
 # A goal that isn't proved, and an error, by the place that they name.

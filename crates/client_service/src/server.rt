@@ -1,8 +1,7 @@
 ghost use Rattle.std.specs.Prelude.{◌≡◌, ◌≢◌, ◌+◌, ◌≤◌, IsTrue, IfOk, IfErr};
 ghost use Rattle.disk_model.specs.FourFiles.{EachFile, StaysFilled};
-ghost use Rattle.workers.specs.AskOrder.{PlaysInTurn};
 ghost use Rattle.workers.specs.Meeting.{HeardOnlyOfDown};
-ghost use Rattle.worker_steps.specs.Stopped.{StaysSound};
+ghost use Rattle.worker_steps.specs.Stopped.{StaysSound, HasPlayed};
 ghost use Rattle.worker_steps.specs.Begun.{IsWhole};
 ghost use Rattle.worker_threads.specs.Opening.{files_of};
 ghost use Rattle.client_service.specs.Accepting.{LeavesFiles};
@@ -89,8 +88,7 @@ pub fn serve_clients<
         EachFile (files_of opened.images opened.log)
         (files_of stopped.workers.checkpointer.images stopped.workers.log_writer.log)
         (StaysFilled D.Disk)) }
-    ensures in_turn { IfOk result (λ stopped.
-        PlaysInTurn stopped.workers.mutator.asks.taken stopped.workers.mutator.to.items) }
+    ensures played { IfOk result (λ stopped. HasPlayed stopped.workers.mutator) }
     ensures acked { IfOk result (λ stopped. opened.ended ≤ stopped.workers.log_writer.acked) }
     ensures every { IfOk result (λ stopped. stopped.workers.mutator.every ≡ every) }
     ensures heard { IfOk result (λ stopped.

@@ -12,7 +12,9 @@ use Rattle.workers.specs.declared.checkpointer.round.ImageWriter.{ImageWriter}
 use Rattle.workers.specs.declared.log_writer.Log.{Log}
 use Rattle.worker_steps.specs.declared.opened.Opened.{Opened}
 use Rattle.workers.specs.Items.{records_of}
+use Rattle.workers.specs.AskOrder.{PlaysInTurn}
 use Rattle.workers.specs.Mutating.{Playing, IsMutator}
+use Rattle.workers.specs.Worlds.{History}
 use Rattle.workers.specs.Logging.{Logging, IsLogging, LogStands}
 use Rattle.image_files.specs.Progress.{newest_tick}
 use Rattle.workers.specs.Imaging.{Imaging, IsCheckpointer, ImagesStand}
@@ -33,6 +35,13 @@ pub record WorldStands {D : Type 0} (disk : Ghosts D) (first : List ℕ) (ticks 
   pub has_log : LogStands disk log logs
 
 -- ---- the workers at their stop
+
+-- The pushed items state what was played: each tick is its own ask's batch, run in the words after
+-- the items before it, and has that batch's accepted actions and its answer. Each session's batches
+-- were taken in its order, none left out, and played at most once.
+pub record HasPlayed (m : Playing) : Type 0 where
+  pub history : History m.opening m.to.items m.stopped m.front
+  pub in_turn : PlaysInTurn m.asks.taken m.to.items
 
 -- the first item is the start at this tick
 abbrev pub BeginAt : ℕ → List Item → Type 0

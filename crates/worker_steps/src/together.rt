@@ -1,10 +1,9 @@
 //! The workers of a world in one thread, a step of one of them at a time.
 ghost use Rattle.std.specs.Prelude.{◌≡◌, ◌≤◌, IsTrue, IfOk, IfErr};
-ghost use Rattle.workers.specs.AskOrder.{PlaysInTurn};
 ghost use Rattle.workers.specs.Channel.{AreOneChannel};
 ghost use Rattle.workers.specs.Imaging.{KeepsBack, IsAtRest as IsResting};
 ghost use Rattle.workers.specs.Logging.{IsAtRest};
-ghost use Rattle.worker_steps.specs.Stopped.{AreSound, StaysSound, acknowledged_by};
+ghost use Rattle.worker_steps.specs.Stopped.{AreSound, HasPlayed, StaysSound, acknowledged_by};
 ghost use Rattle.worker_steps.specs.Begun.{Started, workers_of, IsWhole, IsBegun};
 ghost use Rattle.worker_steps.specs.Kept.{KeepsFront, KeepsLog};
 ghost use Rattle.worker_steps.specs.Running.{Makes, Meets};
@@ -110,7 +109,7 @@ impl<M: Method, D: Disk + Drop, A: Gate + Drop, B: Gate + Drop, C: Gate + Drop> 
             → AreSound D.Disk self.new.mutator self.new.checkpointer self.new.log_writer }
         ensures posted { self.new.log_writer.answers.posted
             ≤ acknowledged_by self.new.checkpointer self.new.log_writer }
-        ensures in_turn { PlaysInTurn self.new.mutator.asks.taken self.new.mutator.to.items }
+        ensures played { HasPlayed self.new.mutator }
         ensures mutator { KeepsFront self.old.mutator self.new.mutator }
         ensures checkpointer { KeepsBack self.old.checkpointer self.new.checkpointer }
         ensures log_writer { KeepsLog self.old.log_writer self.new.log_writer }
@@ -163,7 +162,7 @@ impl<M: Method, D: Disk + Drop, A: Gate + Drop, B: Gate + Drop, C: Gate + Drop> 
             → AreSound D.Disk self.new.mutator self.new.checkpointer self.new.log_writer }
         ensures posted { self.new.log_writer.answers.posted
             ≤ acknowledged_by self.new.checkpointer self.new.log_writer }
-        ensures in_turn { PlaysInTurn self.new.mutator.asks.taken self.new.mutator.to.items }
+        ensures played { HasPlayed self.new.mutator }
         ensures meets { Meets
             (workers_of self.old.mutator self.old.checkpointer self.old.log_writer)
             (workers_of self.new.mutator self.new.checkpointer self.new.log_writer) }

@@ -1,9 +1,8 @@
 ghost use Rattle.std.specs.Prelude.{◌≡◌, true, IsTrue};
 ghost use Rattle.disk_model.specs.FourFiles.{EachFile, StaysFilled};
 ghost use Rattle.shared_capture.specs.States.{MetBack};
-ghost use Rattle.workers.specs.AskOrder.{PlaysInTurn};
 ghost use Rattle.workers.specs.Meeting.{HeardOnlyOfDown};
-ghost use Rattle.worker_steps.specs.Stopped.{AreSound};
+ghost use Rattle.worker_steps.specs.Stopped.{AreSound, HasPlayed};
 ghost use Rattle.worker_threads.specs.Opening.{files_of};
 
 use crate::threads::StoppedWorkers;
@@ -15,7 +14,7 @@ use workers::{Gate, meet_workers};
 /// Brings the ends of a world's workers together. Then, on disks that keep to the disk model, the
 /// four files are sound for the ticks with which the workers began and those that they played. No
 /// acknowledged tick can be lost. No crash empties a file that had a byte when they began. Each
-/// session's batches were taken in its order, none left out, and played at most once.
+/// tick is a batch that was asked for, each session's in its order, and has its answer.
 pub fn meet_stopped<M: Method, D: Disk + Drop, A: Gate + Drop, B: Gate + Drop, C: Gate + Drop>(
     stopped: &mut StoppedWorkers<M, D, A, B, C>,
 )
@@ -25,7 +24,7 @@ pub fn meet_stopped<M: Method, D: Disk + Drop, A: Gate + Drop, B: Gate + Drop, C
         → EachFile (files_of stopped.new.checkpointer.opening stopped.new.log_writer.opening)
         (files_of stopped.new.checkpointer.images stopped.new.log_writer.log)
         (StaysFilled D.Disk) }
-    ensures in_turn { PlaysInTurn stopped.new.mutator.asks.taken stopped.new.mutator.to.items }
+    ensures played { HasPlayed stopped.new.mutator }
     ensures mutator { stopped.new.mutator ≡ record stopped.old.mutator {
       front = record stopped.old.mutator.front { closed = stopped.new.mutator.front.closed };
     } }

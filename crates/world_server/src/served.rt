@@ -2,9 +2,8 @@
 ghost use Rattle.std.specs.Prelude.{◌≡◌, ◌≤◌, ◌++◌, ◌∷◌, [], Option, None, IsTrue, IfOk};
 ghost use Rattle.std.specs.Prelude.{IfErr, IfSome, MatchResult};
 ghost use Rattle.disk_model.specs.FourFiles.{EachFile, StaysFilled};
-ghost use Rattle.workers.specs.AskOrder.{PlaysInTurn};
 ghost use Rattle.worker_steps.specs.Begun.{IsWhole};
-ghost use Rattle.worker_steps.specs.Stopped.{StaysSound};
+ghost use Rattle.worker_steps.specs.Stopped.{StaysSound, HasPlayed};
 ghost use Rattle.worker_threads.specs.Opening.{files_of};
 ghost use Rattle.client_service.specs.Accepting.{LeavesFiles};
 ghost use Rattle.world_folder.specs.declared.lost.Finding.{Finding as Named};
@@ -64,7 +63,7 @@ pub enum WorldFailure<D: Disk + Drop> {
 /// after the last client. It then prints how far play came. On disks that keep to the disk model
 /// the files are sound throughout. A refusal leaves them with the same world. A server leaves them
 /// with all that was acknowledged. No crash empties a file that had a byte. Each session's batches
-/// are taken in its order, none left out, and played at most once.
+/// are taken in its order, none left out, and played at most once, each as a tick of its own.
 pub fn serve_world<
     R: Threads + Wait + Clock + Copy + Send + 'static,
     M: Method + Send + 'static,
@@ -89,9 +88,7 @@ pub fn serve_world<
     ensures sound { IsTrue D.honest → IfOk result (λ served.
         GoesOnSound D.Disk files served.recovered.tick served.stopped.workers.mutator
         served.stopped.workers.checkpointer served.stopped.workers.log_writer) }
-    ensures in_turn { IfOk result (λ served.
-        PlaysInTurn served.stopped.workers.mutator.asks.taken
-        served.stopped.workers.mutator.to.items) }
+    ensures played { IfOk result (λ served. HasPlayed served.stopped.workers.mutator) }
     ensures left { IsTrue D.honest → IfErr result (LeavesWorld D.Disk files) }
     ensures reason { IfErr result (FailsFor D.Disk checks files) }
     ensures filled { IsTrue D.honest → MatchResult result
@@ -218,9 +215,7 @@ fn serve_opened<
         EachFile (files_of opened.images opened.log)
         (files_of served.stopped.workers.checkpointer.images
         served.stopped.workers.log_writer.log) (StaysFilled D.Disk)) }
-    ensures in_turn { IfOk result (λ served.
-        PlaysInTurn served.stopped.workers.mutator.asks.taken
-        served.stopped.workers.mutator.to.items) }
+    ensures played { IfOk result (λ served. HasPlayed served.stopped.workers.mutator) }
     ensures acked { IfOk result (λ served. opened.ended ≤ served.stopped.workers.log_writer.acked) }
     ensures left { IfErr result (GivesBack recovered (files_of opened.images opened.log)) }
     ensures printed { IsTrue F.known → MatchResult result

@@ -2,7 +2,7 @@
 ghost use Rattle.std.specs.Prelude.{◌≡◌, ◌≢◌, ◌≤◌, false, None, IsTrue, IfOk, IfErr, IfSome};
 ghost use Rattle.std.specs.Prelude.{MatchResult};
 ghost use Rattle.disk_model.specs.FourFiles.{EachFile, KeepsFile, mapped};
-ghost use Rattle.workers.specs.AskOrder.{PlaysInTurn};
+ghost use Rattle.worker_steps.specs.Stopped.{HasPlayed};
 ghost use Rattle.world_folder.specs.Ending.{ReportsFailure};
 ghost use Rattle.world_folder.specs.Failing.{first_failure};
 ghost use Rattle.world_folder.specs.Lost.{lost_in};
@@ -118,9 +118,8 @@ pub fn serve_folder<
     ensures whole { IsTrue D.honest → service.now.on_loss ≡ OnLoss.Refuse
         → IfOk result (λ run. IfServed run.left (λ served. lost_in D.content OnLoss.Refuse
         served.recovered.tick served.recovered.from run.opened.value ≡ None)) }
-    ensures in_turn { IfOk result (λ run. IfServed run.left (λ served.
-        PlaysInTurn served.stopped.workers.mutator.asks.taken
-        served.stopped.workers.mutator.to.items)) }
+    ensures played { IfOk result (λ run. IfServed run.left (λ served.
+        HasPlayed served.stopped.workers.mutator)) }
     ensures settings { IfOk result (λ run. IfServed run.left (λ served.
         FollowsService service.now served.stopped.workers.mutator served.stopped.accepted)) }
     ensures stops { IfOk result (λ run. IfServed run.left (λ served. StopsAndPrints
@@ -166,9 +165,7 @@ fn serve_files<
     ensures whole { IsTrue D.honest → service.now.on_loss ≡ OnLoss.Refuse
         → IfServed result.0 (λ served. lost_in D.content OnLoss.Refuse
         served.recovered.tick served.recovered.from files ≡ None) }
-    ensures in_turn { IfServed result.0 (λ served.
-        PlaysInTurn served.stopped.workers.mutator.asks.taken
-        served.stopped.workers.mutator.to.items) }
+    ensures played { IfServed result.0 (λ served. HasPlayed served.stopped.workers.mutator) }
     ensures settings { IfServed result.0 (λ served.
         FollowsService service.now served.stopped.workers.mutator served.stopped.accepted) }
     ensures stops { IfServed result.0 (λ served. StopsAndPrints

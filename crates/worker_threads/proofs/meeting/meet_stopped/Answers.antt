@@ -10,8 +10,8 @@ pub returns-clause-heard : goal.returns-clause-heard
 returns-clause-heard g c = heard_of_down c.meet_workers.new.log_writer.reported_down.numbers c.meet_workers.new.mutator.heard.numbers c.meet_workers.new.log_writer.down
     c.meet_workers.ensures.is_log_writer.reports c.meet_workers.ensures.met.heard
 
-pub returns-clause-in_turn : goal.returns-clause-in_turn
-returns-clause-in_turn g c = c.meet_workers.ensures.is_mutator.in_turn
+pub returns-clause-played : goal.returns-clause-played
+returns-clause-played g c = record { history = c.meet_workers.ensures.is_mutator.history; in_turn = c.meet_workers.ensures.is_mutator.in_turn }
 
 pub returns-clause-filled : goal.returns-clause-filled
 returns-clause-filled g c = λ honest.

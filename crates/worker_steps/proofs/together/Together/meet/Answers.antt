@@ -9,5 +9,5 @@ returns-clause-sound g c = λ honest.
 pub returns-clause-posted : goal.returns-clause-posted
 returns-clause-posted g c = omega (arith, c.meet_workers.ensures.is_log_writer.durable)
 
-pub returns-clause-in_turn : goal.returns-clause-in_turn
-returns-clause-in_turn g c = c.meet_workers.ensures.is_mutator.in_turn
+pub returns-clause-played : goal.returns-clause-played
+returns-clause-played g c = record { history = c.meet_workers.ensures.is_mutator.history; in_turn = c.meet_workers.ensures.is_mutator.in_turn }
