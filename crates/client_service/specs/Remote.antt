@@ -4,7 +4,7 @@ use Rattle.world_actions.specs.declared.refusal.Refusal.{Refusal}
 use Rattle.world_actions.specs.declared.refusal.Refusal.TheVariants.{NoMemory}
 use Rattle.batches.specs.declared.batch.Request.{Request}
 use Rattle.workers.specs.declared.post.Fault.{Fault}
-use Rattle.workers.specs.Posts.{Posted, IsPost}
+use Rattle.workers.specs.Posts.{Posted, IsPost, reason_of}
 use Rattle.workers.specs.Asking.{AskerState, IsAsked, IsUnsent, IsNewPost, IsFaultOf}
 
 -- a session: its asker, the post that answered it last, and its last fault
@@ -13,9 +13,10 @@ pub record Asking : Type 0 where
   pub last : Option Posted
   pub fault : Option Fault
 
--- the session asked once
-abbrev pub Asks : (old new : Asking) → Type 0
-Asks old new = IsAsked old.asker new.asker × (new ≡ record old { asker = new.asker })
+-- the session asked once, for these requests
+abbrev pub Asks : (old : Asking) → List Request → (new : Asking) → Type 0
+Asks old requests new =
+    IsAsked old.asker requests new.asker × (new ≡ record old { asker = new.asker })
 
 -- it heard this post, a new one of its last ask, which was for these requests
 abbrev pub HearsPost : (old : Asking) → List Request → (new : Asking) → Posted → Type 0
@@ -26,24 +27,23 @@ HearsPost old requests new post =
 -- it heard a fault of its last ask, for this reason
 abbrev pub HearsFault : (old new : Asking) → Refusal → Type 0
 HearsFault old new refusal =
-    (fault : Fault) × IsFaultOf old.asker fault × (refusal ≡ fault.reason)
+    (fault : Fault) × IsFaultOf old.asker fault × (refusal ≡ reason_of fault)
     × (new ≡ record old { fault = Some fault })
 
 -- it sent no ask: it had no memory, the mutator is gone, or no number of 64 bits is left
 abbrev pub AsksNothing : (old new : Asking) → Refusal → Type 0
-AsksNothing old new refusal = ((new ≡ old) × (refusal ≡ NoMemory))
-    ⊎ ((fault : Fault) × IsUnsent old.asker fault × (refusal ≡ fault.reason)
-    × (new ≡ record old { fault = Some fault }))
+AsksNothing old new refusal =
+    (new ≡ old) × ((refusal ≡ NoMemory) ⊎ IsUnsent old.asker refusal)
 
--- it asked once, and heard this post
+-- it asked once, for these requests, and heard this post
 abbrev pub IsAnsweredBy : (old : Asking) → List Request → (new : Asking) → Posted → Type 0
 IsAnsweredBy old requests new post =
-    (asked : Asking) × Asks old asked × HearsPost asked requests new post
+    (asked : Asking) × Asks old requests asked × HearsPost asked requests new post
 
--- it asked nothing, or asked once and heard a fault for this reason
-abbrev pub IsRefusedFor : (old new : Asking) → Refusal → Type 0
-IsRefusedFor old new refusal =
-    AsksNothing old new refusal ⊎ ((asked : Asking) × Asks old asked × HearsFault asked new refusal)
+-- it asked nothing, or asked once, for these requests, and heard a fault for this reason
+abbrev pub IsRefusedFor : (old : Asking) → List Request → (new : Asking) → Refusal → Type 0
+IsRefusedFor old requests new refusal = AsksNothing old new refusal
+    ⊎ ((asked : Asking) × Asks old requests asked × HearsFault asked new refusal)
 
 -- A batch is asked for once. Its answer is the text of a new post, which is of this very ask, at a
 -- later tick than the one before, and durable. A fault is the one that was heard of this ask, and
@@ -52,4 +52,4 @@ abbrev pub IsPosted : (old : Asking) → List Request → Result (List ℕ) Refu
     → (new : Asking) → Type 0
 IsPosted old requests (Ok text) new =
     (post : Posted) × IsAnsweredBy old requests new post × (text ≡ post.text) × IsPost post
-IsPosted old requests (Err refusal) new = IsRefusedFor old new refusal
+IsPosted old requests (Err refusal) new = IsRefusedFor old requests new refusal

@@ -46,6 +46,7 @@ impl<R: Wait + Copy> Model for Remote<R> {
 
 impl<R: Wait + Copy> Remote<R> {
     ghost use Rattle.std.specs.Prelude.{◌≡◌, None, Some, IfOk, IfErr};
+    ghost use Rattle.workers.specs.Posts.{reason_of};
     ghost use Rattle.workers.specs.Asking.{IsNewPost, IsFaultOf};
     ghost use Rattle.client_service.specs.Remote.{HearsPost, HearsFault, IsAnsweredBy};
     ghost use Rattle.client_service.specs.Remote.{IsRefusedFor};
@@ -108,7 +109,7 @@ impl<R: Wait + Copy> Remote<R> {
     // Sends a batch as `ask` does, and counts the batch and its answer.
     fn ask_counted(&mut self, b: &Batch, buffer: Vec<u8>) -> Result<Post, Refusal>
         ensures ok { IfOk result (IsAnsweredBy self.old b.now.list self.new) }
-        ensures err { IfErr result (IsRefusedFor self.old self.new) }
+        ensures err { IfErr result (IsRefusedFor self.old b.now.list self.new) }
     {
         if let Some(pulse) = &self.pulse {
             pulse.asked();
@@ -126,14 +127,12 @@ impl<R: Wait + Copy> Remote<R> {
     // Sends a batch with a buffer for its answer, and waits for its post.
     fn ask(&mut self, b: &Batch, buffer: Vec<u8>) -> Result<Post, Refusal>
         ensures ok { IfOk result (IsAnsweredBy self.old b.now.list self.new) }
-        ensures err { IfErr result (IsRefusedFor self.old self.new) }
+        ensures err { IfErr result (IsRefusedFor self.old b.now.list self.new) }
     {
         let batch = self.copy(b)?;
         let (awaited, to) = self.reply_place()?;
-        match self.asker.send(&self.rt, batch, buffer, to) {
-            Ok(()) => self.wait(b, awaited),
-            Err(fault) => Err(self.refused(fault)),
-        }
+        self.asker.send(&self.rt, batch, buffer, to)?;
+        self.wait(b, awaited)
     }
 
     // Waits for the post of the last ask, which was for this batch.
@@ -172,7 +171,7 @@ impl<R: Wait + Copy> Remote<R> {
     // Notes a fault, and returns its reason.
     fn refused(&mut self, fault: Fault) -> Refusal
         ensures noted { self.new ≡ record self.old { fault = Some fault } }
-        ensures reason { result ≡ fault.reason }
+        ensures reason { result ≡ reason_of fault }
     {
         self.fault = Some(fault);
         fault.reason()

@@ -199,7 +199,7 @@ fn heed(answer: Answer, trial: &mut Trial) -> u64 {
             trial.tally.count(Kind::Posted);
             return tick;
         }
-        Answer::Lost(Refusal::LogDown) => {}
+        Answer::Lost | Answer::Fault(Refusal::LogDown) => {}
         _ => trial.tally.hold(false, Rule::AnswersAsk),
     }
     0

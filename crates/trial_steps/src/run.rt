@@ -266,7 +266,7 @@ fn heed(answer: Answer, acked: u64, log_down: bool, trial: &mut Trial) {
             trial.tally.count(Kind::Posted);
             trial.tally.hold(tick <= acked, Rule::PostsAcknowledged);
         }
-        Answer::Lost(Refusal::LogDown) => {
+        Answer::Lost => {
             trial.tally.count(Kind::LogWentDown);
             trial.tally.hold(log_down, Rule::Refuses);
         }

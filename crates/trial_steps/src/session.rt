@@ -2,7 +2,9 @@ use crate::model::PlainModel;
 use batches::Batch;
 use std::alloc::Global;
 use std::sync::Wait;
-use workers::{AskChannel, AskReceiver, Asker, AwaitedReply, Post, Reply, ReplySender, ReplySlot};
+use workers::{
+    AskChannel, AskReceiver, Asker, AwaitedReply, Fault, Post, Reply, ReplySender, ReplySlot,
+};
 use world_actions::Refusal;
 
 /// A batch whose answer has not come.
@@ -21,8 +23,8 @@ struct Pending {
 pub enum Answer {
     /// A post of this tick, which was the session's own.
     Post(u64),
-    /// A refusal of a batch that was run as a tick.
-    Lost(Refusal),
+    /// The loss of a batch that was run as a tick.
+    Lost,
     /// A refusal of a batch that was not run.
     Fault(Refusal),
     /// Another answer, or none, and none can come any more.
@@ -82,10 +84,7 @@ impl Session {
         let to = self.await_answer(alloc, batch.try_copy(Batch::empty(alloc))?)?;
         let copy = batch.try_copy(Batch::empty(alloc))?;
         let asker = self.asker.as_mut().ok_or(Refusal::LogDown)?;
-        match asker.send(rt, copy, Vec::new(alloc), to) {
-            Ok(()) => Ok(()),
-            Err(fault) => Err(fault.reason()),
-        }
+        asker.send(rt, copy, Vec::new(alloc), to)
     }
 
     // Waits for the answer of a batch, which is sent to this sender.
@@ -153,9 +152,9 @@ impl Session {
     ) -> Answer {
         match reply {
             Some(Reply::Post(post)) => self.judge_post(ask, batch, run, post, model),
-            Some(Reply::Fault(fault)) if run.is_some() => Answer::Lost(fault.reason()),
-            Some(Reply::Fault(fault)) => Answer::Fault(fault.reason()),
-            None => Answer::Wrong,
+            Some(Reply::Fault(Fault::Unplayed(unplayed))) => Answer::Fault(unplayed.reason()),
+            Some(Reply::Fault(Fault::Lost)) if run.is_some() => Answer::Lost,
+            Some(Reply::Fault(Fault::Lost)) | None => Answer::Wrong,
         }
     }
 

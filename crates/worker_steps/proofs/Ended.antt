@@ -1,5 +1,5 @@
 -- The ends of the three workers make the files sound.
-use Rattle.std.proofs.Common.{◌≡◌, ℕ, ◌+◌, ◌≤◌, Bool, IsTrue, List, ◌++◌, length, None, sym, ap, ◌∙◌, subst}
+use Rattle.std.proofs.Common.{◌≡◌, ℕ, ◌+◌, ◌≤◌, IsTrue, ◌++◌, length, None, sym, ap, ◌∙◌, subst}
 use Rattle.image_files.specs.declared.phase.Phase.TheVariants as phases
 use Rattle.image_files.specs.Images.{ImageFiles, ImageFilesAre, ImagesAre, Newest, newest_in, round_in}
 use Rattle.action_log.specs.Logs.{Logs, LogsAre}

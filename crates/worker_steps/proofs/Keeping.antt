@@ -2,6 +2,7 @@
 use Rattle.std.proofs.Common.{◌≡◌, ◌∙◌, sym, ap, ◌⊎◌, inl, inr, Ok, Err, Result, Bool, true, false, List, [], ◌∷◌, ◌++◌, append_assoc, Option, Some, None, MatchOption, refl, subst}
 use Rattle.std.proofs.lemmas.List.{append-nil}
 use Rattle.world_actions.specs.declared.refusal.Refusal.{Refusal}
+use Rattle.workers.specs.declared.post.Unplayed.{Unplayed}
 use Rattle.workers.specs.declared.item.Item.{Item}
 use Rattle.workers.specs.declared.item.Item.TheVariants as items
 use Rattle.workers.specs.declared.item.Owed.{Owed}
@@ -49,18 +50,18 @@ refused_keeps stuck old reason new (inr (inr held)) = keeps_all old new held.0 r
 owes_tick_keeps : (old : Playing) (asked : AskedBatch) (new : Playing) → OwesTick old asked new → KeepsFront old new
 owes_tick_keeps old asked new (nothing, (ended, runs, is)) = keeps_all old new is runs.pair refl refl refl refl refl refl
 
-pub run_keeps : (go stuck : Type 0) (old : Playing) (asked : AskedBatch) (given : Result (Unit {0}) Refusal) (new : Playing) → RunsBatch go stuck old asked given new → KeepsFront old new
+pub run_keeps : (go stuck : Type 0) (old : Playing) (asked : AskedBatch) (given : Result (Unit {0}) Unplayed) (new : Playing) → RunsBatch go stuck old asked given new → KeepsFront old new
 run_keeps go stuck old asked (Ok _) new ran = owes_tick_keeps old asked new ran.2
-run_keeps go stuck old asked (Err reason) new refused = refused_keeps stuck old reason new refused
+run_keeps go stuck old asked (Err unplayed) new refused = refused_keeps stuck old unplayed.reason new refused.1
 
 pub takes_keeps : (old : Playing) (asked : AskedBatch) (new : Playing) → TakesAsk old asked new → KeepsFront old new
 takes_keeps old asked new is = keeps_all old new is refl refl refl refl refl refl refl
 
-plays_keep : (go stuck : Type 0) (old : Playing) (asked : AskedBatch) (given : Result (Unit {0}) Refusal) (new : Playing) → Plays go stuck old asked given new → KeepsFront old new
+plays_keep : (go stuck : Type 0) (old : Playing) (asked : AskedBatch) (given : Result (Unit {0}) Unplayed) (new : Playing) → Plays go stuck old asked given new → KeepsFront old new
 plays_keep go stuck old asked given new plays = then old plays.taken new (takes_keeps old asked plays.taken plays.takes) (run_keeps go stuck plays.taken asked given new plays.runs)
 
 -- the answer says if there was a batch
-pub may_play : (go stuck : Type 0) (old new : Playing) (result : Option (Result (Unit {0}) Refusal))
+pub may_play : (go stuck : Type 0) (old new : Playing) (result : Option (Result (Unit {0}) Unplayed))
     → MatchOption result (new ≡ old) (λ given. (asked : AskedBatch) × Plays go stuck old asked given new) → MayPlay go stuck old new × KeepsFront old new
 may_play go stuck old new None is = (inl is, same old new is)
 may_play go stuck old new (Some given) plays = (inr (plays.0, given, plays.1), plays_keep go stuck old plays.0 given new plays.1)

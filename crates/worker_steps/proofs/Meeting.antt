@@ -1,5 +1,5 @@
 -- The ends of the workers are brought together.
-use Rattle.std.proofs.Common.{arith, ◌≡◌, ◌⊎◌, ℕ, ◌+◌, ◌≤◌, List, [], ◌∷◌, ◌++◌, length, Option, None, refl, sym, ap, ◌∙◌, subst, append-nil}
+use Rattle.std.proofs.Common.{arith, ◌≡◌, ◌⊎◌, ℕ, ◌+◌, ◌≤◌, List, [], ◌++◌, length, Option, None, sym, ap, ◌∙◌, subst, append-nil}
 use Rattle.std.specs.Prelude.{Contains, IfSome}
 use Rattle.std.proofs.lemmas.List.{append_assoc}
 use Rattle.world_actions.specs.declared.action.Action.{Action}
@@ -7,7 +7,6 @@ use Rattle.image_files.specs.Images.{Images, ImagesAre, Newest}
 use Rattle.action_log.specs.Logs.{Logs, LogsAre}
 use Rattle.action_log.specs.Queue.{QueueEnd}
 use Rattle.action_log.specs.declared.record.Record.{Record}
-use Rattle.action_log.specs.declared.record.Record.TheVariants as records
 use Rattle.recovery.specs.Sound.{IsSound}
 use Rattle.recovery.specs.Follow.{LawOfRecovery}
 use Rattle.recovery.specs.Events.{ticks_in, switches_in, IsKept}

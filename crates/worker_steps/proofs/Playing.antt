@@ -1,6 +1,6 @@
 -- The mutator's pushed items, played on the keepers' data: each tick ends, and each round is marked, and opened if the back
 -- has done it.
-use Rattle.std.proofs.Common.{arith, ◌≡◌, ℕ, suc, ◌+◌, ◌≤◌, All, List, [], ◌∷◌, ◌++◌, length, drop, Option, Some, None, Ok, refl, sym, ap, ◌∙◌, subst}
+use Rattle.std.proofs.Common.{arith, ◌≡◌, ℕ, suc, ◌+◌, ◌≤◌, All, List, [], ◌∷◌, ◌++◌, length, Option, Some, None, Ok, refl, sym, ap, ◌∙◌, subst}
 use Rattle.std.specs.Prelude.{max}
 use Rattle.std.specs.List.{flat_map}
 use Rattle.std.proofs.Common.{append-nil}
@@ -9,7 +9,6 @@ use Rattle.std.proofs.lemmas.List.Elements.{All-head, All-tail}
 use Rattle.std.proofs.lemmas.Grind.{flat_map-append}
 use Rattle.world_actions.specs.declared.action.Action.{Action}
 use Rattle.world_ticks.specs.After.{and_then, after_actions, after_ticks}
-use Rattle.capture_core.specs.declared.taker.Taken.{Taken}
 use Rattle.file_format.specs.Slot.{other_slot}
 use Rattle.image_files.specs.Image.{Open}
 use Rattle.image_files.specs.Images.{Round as ImageRound, Images, Newest}
@@ -20,7 +19,6 @@ use Rattle.action_log.specs.declared.record.Record.{Record}
 use Rattle.action_log.specs.declared.record.Record.TheVariants as records
 use Rattle.recovery.specs.Sound.{IsWorldAt}
 use Rattle.recovery.specs.Events.{ticks_in, IsKept}
-use Rattle.batches.specs.declared.batch.Request.{Request}
 use Rattle.shared_capture.specs.declared.view.Round.{Round}
 use Rattle.shared_capture.specs.declared.view.Snapshot.{Snapshot}
 use Rattle.shared_capture.specs.Rounds.{round, IsTakenOf, Agree}

@@ -1,6 +1,6 @@
 -- The effect of a step of one of the three workers.
 use Rattle.std.specs.Prelude.{◌≡◌, ◌≢◌, ◌⊎◌, ℕ, ◌<◌, ◌≤◌, true, false, Result}
-use Rattle.world_actions.specs.declared.refusal.Refusal.{Refusal}
+use Rattle.workers.specs.declared.post.Unplayed.{Unplayed}
 use Rattle.disk_model.specs.declared.disk.Disk.{Ghosts}
 use Rattle.disk_model.specs.Disk.{OneCalledAtMostOnce}
 use Rattle.image_files.specs.declared.phase.Phase.TheVariants.{Taking}
@@ -32,7 +32,7 @@ use Rattle.worker_steps.specs.declared.next.Next.TheVariants.{Log as Write, Imag
 abbrev pub MayPlay : (go stuck : Type 0) → (old new : Playing) → Type 0
 MayPlay go stuck old new =
     (new ≡ old)
-    ⊎ ((asked : AskedBatch) × (given : Result (Unit {0}) Refusal)
+    ⊎ ((asked : AskedBatch) × (given : Result (Unit {0}) Unplayed)
     × Plays go stuck old asked given new)
 
 -- no round was opened, or one whose switch is owed

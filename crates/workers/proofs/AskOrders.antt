@@ -10,6 +10,7 @@ use Rattle.std.proofs.lemmas.List.Sums.{sum_by-cons, sum_by-append, sum_by_push}
 use Rattle.std.proofs.lemmas.List.Elements.{All-nil, All-cons, All-head, All-tail, All-push, All-weaker}
 use Rattle.crossbeam_channel.specs.Fifo.{Pushes, Pops, Forks, Learns}
 use Rattle.shared_capture.proofs.Views.{set_knows, split_knows}
+use Rattle.batches.specs.declared.batch.Request.{Request}
 use Rattle.workers.specs.declared.ask_rule.AskView.{AskView}
 use Rattle.workers.specs.declared.ask_rule.AskView.TheVariants as V
 use Rattle.workers.specs.Posts.{AskedBatch}
@@ -112,10 +113,10 @@ starts = record {
 -- the seat id knew v, and the others know what they knew
 module _ (asks : List AskedBatch) (views : List AskView) (k : IsInTurn asks views) (id : ℕ) where
   -- a session sends its next ask
-  sends_one : (session count : ℕ) (x : AskedBatch) → get_elem? views id ≡ some (V.Sends session count) → x.session ≡ session → x.ask ≡ count + 1
-      → IsInTurn (asks ++ x ∷ []) (set views id (V.Sends x.session x.ask))
-  sends_one session count x at own next =
-      let known = k.each_seat id (V.Sends session count) at in
+  sends_one : (session count : ℕ) (requests : List Request) (x : AskedBatch) → get_elem? views id ≡ some (V.Sends session count requests) → x.session ≡ session → x.ask ≡ count + 1
+      → IsInTurn (asks ++ x ∷ []) (set views id (V.Sends x.session x.ask x.requests))
+  sends_one session count requests x at own next =
+      let known = k.each_seat id (V.Sends session count requests) at in
       let all : List AskedBatch = k.all ++ x ∷ [] in
       let number : x.ask ≡ asks_by x.session k.all + 1 = next ∙ ap (λ n. n + 1) (known.1 ∙ ap (λ s. asks_by s k.all) (sym own)) in record {
         all = all;
@@ -126,7 +127,7 @@ module _ (asks : List AskedBatch) (views : List AskView) (k : IsInTurn asks view
         order = sym (append_assoc k.taken asks (x ∷ [])) ∙ ap (λ (l : List AskedBatch). l ++ x ∷ []) k.order;
         numbered = next_push [] k.all x k.numbered number;
         begun = All-push (λ (y : AskedBatch). y.session < length k.seats) k.all x k.begun (subst (λ n. n < length k.seats) (sym own) (is_begun k.seats session id known.0));
-        each_seat = set_knows (Knows all k.taken k.seats k.numbered_at k.taken_at) views id (V.Sends x.session x.ask)
+        each_seat = set_knows (Knows all k.taken k.seats k.numbered_at k.taken_at) views id (V.Sends x.session x.ask x.requests)
             (ap (get_elem? k.seats) own ∙ known.0, number ∙ sym (own_push x.session k.all x refl))
             others;
       }
@@ -135,16 +136,16 @@ module _ (asks : List AskedBatch) (views : List AskView) (k : IsInTurn asks view
       others j V.Begins ne e = k.each_seat j V.Begins e
       others j (V.Numbers next) ne e = k.each_seat j (V.Numbers next) e
       others j (V.Takes taken) ne e = k.each_seat j (V.Takes taken) e
-      others j (V.Sends other most) ne e =
-          let mine = k.each_seat id (V.Sends session count) at in
-          let seen = k.each_seat j (V.Sends other most) e in (
+      others j (V.Sends other most last) ne e =
+          let mine = k.each_seat id (V.Sends session count requests) at in
+          let seen = k.each_seat j (V.Sends other most last) e in (
             seen.0,
             seen.1 ∙ sym (other_push other k.all x
                 (λ same. ne (some-injective j id (sym seen.0 ∙ (ap (get_elem? k.seats) (sym same ∙ own) ∙ mine.0))))),
           )
 
   -- a session begins
-  begins_one : (next : ℕ) → get_elem? views id ≡ some (V.Numbers next) → IsInTurn asks (set views id (V.Numbers (next + 1)) ++ V.Sends next 0 ∷ [])
+  begins_one : (next : ℕ) → get_elem? views id ≡ some (V.Numbers next) → IsInTurn asks (set views id (V.Numbers (next + 1)) ++ V.Sends next 0 [] ∷ [])
   begins_one next at =
       let known = k.each_seat id (V.Numbers next) at in
       let seat : ℕ = length (set views id (V.Numbers (next + 1))) in
@@ -158,7 +159,7 @@ module _ (asks : List AskedBatch) (views : List AskView) (k : IsInTurn asks view
         order = k.order;
         numbered = k.numbered;
         begun = All-weaker (λ (y : AskedBatch). y.session < length k.seats) (λ (y : AskedBatch). y.session < length seats) (λ y low. omega (arith, low, more)) k.all k.begun;
-        each_seat = split_knows (Knows k.all k.taken seats k.numbered_at k.taken_at) views id (V.Numbers (next + 1)) (V.Sends next 0)
+        each_seat = split_knows (Knows k.all k.taken seats k.numbered_at k.taken_at) views id (V.Numbers (next + 1)) (V.Sends next 0 [])
             (known.0, ap (λ n. n + 1) known.1 ∙ sym more) (
               ap (get_elem? seats) known.1 ∙ at_last k.seats seat,
               subst (λ n. 0 ≡ asks_by n k.all) (sym known.1) (none_by (length k.seats) k.all k.begun),
@@ -170,7 +171,7 @@ module _ (asks : List AskedBatch) (views : List AskView) (k : IsInTurn asks view
       others seat j V.Begins ne e = absurd (ne ((k.each_seat j V.Begins e).0 ∙ sym (k.each_seat id (V.Numbers next) at).0))
       others seat j (V.Numbers other) ne e = absurd (ne ((k.each_seat j (V.Numbers other) e).0 ∙ sym (k.each_seat id (V.Numbers next) at).0))
       others seat j (V.Takes taken) ne e = k.each_seat j (V.Takes taken) e
-      others seat j (V.Sends session last) ne e = let seen = k.each_seat j (V.Sends session last) e in (at_more k.seats session j seat seen.0, seen.1)
+      others seat j (V.Sends session last requests) ne e = let seen = k.each_seat j (V.Sends session last requests) e in (at_more k.seats session j seat seen.0, seen.1)
 
   -- the end that takes gets a seat
   parts_one : get_elem? views id ≡ some V.Begins → IsInTurn asks (set views id (V.Numbers 0) ++ V.Takes [] ∷ [])
@@ -195,7 +196,7 @@ module _ (asks : List AskedBatch) (views : List AskView) (k : IsInTurn asks view
       others seat j V.Begins ne e = absurd (ne ((k.each_seat j V.Begins e).0 ∙ sym (k.each_seat id V.Begins at).0))
       others seat j (V.Numbers next) ne e = k.each_seat j (V.Numbers next) e
       others seat j (V.Takes taken) ne e = absurd (ne ((k.each_seat j (V.Takes taken) e).0 ∙ sym (k.each_seat id V.Begins at).1))
-      others seat j (V.Sends session last) ne e = k.each_seat j (V.Sends session last) e
+      others seat j (V.Sends session last requests) ne e = k.each_seat j (V.Sends session last requests) e
 
 -- an ask is taken
 module _ (x : AskedBatch) (asks : List AskedBatch) (views : List AskView) (k : IsInTurn (x ∷ asks) views) (id : ℕ) (known : List AskedBatch) (at : get_elem? views id ≡ some (V.Takes known)) where
@@ -223,13 +224,14 @@ module _ (x : AskedBatch) (asks : List AskedBatch) (views : List AskView) (k : I
       others j V.Begins ne e = absurd (ne ((k.each_seat j V.Begins e).1 ∙ sym (k.each_seat id (V.Takes known) at).0))
       others j (V.Numbers next) ne e = k.each_seat j (V.Numbers next) e
       others j (V.Takes taken) ne e = absurd (ne ((k.each_seat j (V.Takes taken) e).0 ∙ sym (k.each_seat id (V.Takes known) at).0))
-      others j (V.Sends session last) ne e = k.each_seat j (V.Sends session last) e
+      others j (V.Sends session last requests) ne e = k.each_seat j (V.Sends session last requests) e
 
 -- ---- the steps, as the channel asks for them
 
-pub sends : (n id : ℕ) (v : AskView) (session count : ℕ) (x : AskedBatch) → v ≡ V.Sends session count → x.session ≡ session → x.ask ≡ count + 1 → Pushes IsInTurn n id v x (sent v x)
-sends n id v session count x is own next asks views room k at =
-    (V.Sends x.session x.ask, sends_one asks views k id session count x (at ∙ ap (λ (u : AskView). some u) is) own next, refl)
+pub sends : (n id : ℕ) (v : AskView) (session count : ℕ) (requests : List Request) (x : AskedBatch) → v ≡ V.Sends session count requests
+    → x.session ≡ session → x.ask ≡ count + 1 → Pushes IsInTurn n id v x (sent v x)
+sends n id v session count requests x is own next asks views room k at =
+    (V.Sends x.session x.ask x.requests, sends_one asks views k id session count requests x (at ∙ ap (λ (u : AskView). some u) is) own next, refl)
 
 pub takes : (id : ℕ) (v : AskView) → v ≡ V.Takes (taken_of v) → Pops IsInTurn id v (taken v)
 takes id v is x asks views k at = let o = takes_one x asks views k id (taken_of v) (at ∙ ap (λ (u : AskView). some u) is) in (V.Takes (taken_of v ++ x ∷ []), o.0, (refl, o.1))

@@ -7,7 +7,7 @@ use Rattle.workers.specs.declared.ask_rule.AskView.TheVariants.{Numbers, Sends, 
 use Rattle.workers.specs.declared.ask_channel.AskSendEnd.{AskSendEnd}
 use Rattle.workers.specs.declared.ask_channel.AskReceiveEnd.{AskReceiveEnd}
 use Rattle.workers.specs.Posts.{AskedBatch}
-use Rattle.workers.specs.AskOrder.{AreNumbered, taken_of}
+use Rattle.workers.specs.AskOrder.{AreNumbered, last_requests, taken_of}
 
 -- an end, and how many sessions it began
 pub record Numbering : Type 0 where
@@ -34,7 +34,7 @@ pub record IsNumbering (end : AskSendEnd) (pass : Pass AskedBatch AskView) (next
 pub record IsSession (end : AskSendEnd) (pass : Pass AskedBatch AskView)
     (session asked : ℕ) : Type 0 where
   pub at : IsSeatAt (sends_on end.end) pass
-  pub sends : view pass ≡ Sends session asked
+  pub sends : view pass ≡ Sends session asked (last_requests (view pass))
 
 pub record IsTaking (end : AskReceiveEnd) (pass : Pass AskedBatch AskView) : Type 0 where
   pub at : IsSeatAt (receives_on end.end) pass

@@ -3,6 +3,7 @@ use Rattle.std.specs.Prelude.{◌≡◌, ℕ, ◌+◌, ◌<◌, ◌==◌, List, 
 use Rattle.std.specs.Prelude.{count_by, length, map, ⊤}
 use mathlib.Core.Option.{some}
 use lib.ListN.{get_elem?}
+use Rattle.batches.specs.declared.batch.Request.{Request}
 use Rattle.workers.specs.declared.item.Item.{Item}
 use Rattle.workers.specs.declared.ask_rule.AskView.{AskView}
 use Rattle.workers.specs.declared.ask_rule.AskView.TheVariants.{Begins, Numbers, Sends, Takes}
@@ -42,7 +43,7 @@ abbrev pub Knows : (all taken : List AskedBatch) → (seats : List ℕ)
     → (p q seat : ℕ) → AskView → Type 0
 Knows all taken seats p q seat Begins = (seat ≡ p) × (seat ≡ q) × (seats ≡ []) × (taken ≡ [])
 Knows all taken seats p q seat (Numbers next) = (seat ≡ p) × (next ≡ length seats)
-Knows all taken seats p q seat (Sends session count) =
+Knows all taken seats p q seat (Sends session count requests) =
     (get_elem? seats session ≡ some seat) × (count ≡ asks_by session all)
 Knows all taken seats p q seat (Takes asks) = (seat ≡ q) × (asks ≡ taken)
 
@@ -70,8 +71,12 @@ abbrev pub taken_of : AskView → List AskedBatch
 taken_of (Takes asks) = asks
 taken_of v = []
 
+abbrev pub last_requests : AskView → List Request
+last_requests (Sends session count requests) = requests
+last_requests v = []
+
 abbrev pub sent : AskView → AskedBatch → AskView → Type 0
-sent v asked w = w ≡ Sends asked.session asked.ask
+sent v asked w = w ≡ Sends asked.session asked.ask asked.requests
 
 abbrev pub taken : AskView → AskedBatch → AskView → Type 0
 taken v asked w = (w ≡ Takes (taken_of v ++ asked ∷ [])) × AreNumbered (taken_of v ++ asked ∷ [])
@@ -86,7 +91,7 @@ abbrev pub next_numbers : AskView → AskView
 next_numbers v = Numbers (sessions_of v + 1)
 
 abbrev pub new_session : AskView → AskView
-new_session v = Sends (sessions_of v) 0
+new_session v = Sends (sessions_of v) 0 []
 
 -- ---- the ticks of the asks
 

@@ -1,19 +1,22 @@
 -- The asks of a session, and what comes of them.
 use Rattle.std.specs.Prelude.{◌≡◌, ◌⊎◌, ℕ, ◌+◌, ◌<◌, ◌^◌, List}
+use Rattle.world_actions.specs.declared.refusal.Refusal.{Refusal}
 use Rattle.world_actions.specs.declared.refusal.Refusal.TheVariants.{LogDown, TicksEnded}
 use Rattle.batches.specs.declared.batch.Request.{Request}
 use Rattle.workers.specs.declared.post.Fault.{Fault}
-use Rattle.workers.specs.Posts.{Posted}
+use Rattle.workers.specs.Posts.{Posted, IsFaultOfAsk}
 
--- the session's number, how many asks it sent, and the tick of its last post, or 0
+-- the session's number, how many asks it sent, the requests of the last one, and the tick of its
+-- last post, or 0
 pub record AskerState : Type 0 where
   pub session : ℕ
   pub asked : ℕ
+  pub requests : List Request
   pub posted : ℕ
 
--- the session asked once more
-abbrev pub IsAsked : (old new : AskerState) → Type 0
-IsAsked old new = new ≡ record old { asked = old.asked + 1 }
+-- the session asked once more, for these requests
+abbrev pub IsAsked : (old : AskerState) → List Request → (new : AskerState) → Type 0
+IsAsked old requests new = new ≡ record old { asked = old.asked + 1; requests = requests }
 
 -- a post of the session's last ask, which was for these requests, at a later tick
 -- than its last post
@@ -24,10 +27,9 @@ IsNewPost asker requests post =
 
 -- a fault of the session's last ask
 abbrev pub IsFaultOf : AskerState → Fault → Type 0
-IsFaultOf asker fault = (fault.session ≡ asker.session) × (fault.ask ≡ asker.asked)
+IsFaultOf asker fault = IsFaultOfAsk asker.session asker.asked fault
 
 -- the session's next ask was not sent: the mutator is gone, or no number of 64 bits is left for it
-abbrev pub IsUnsent : AskerState → Fault → Type 0
-IsUnsent asker fault = (fault.session ≡ asker.session)
-    × (((fault.ask ≡ asker.asked + 1) × (fault.reason ≡ LogDown))
-    ⊎ ((asker.asked + 1 ≡ 2 ^ 64) × (fault.reason ≡ TicksEnded)))
+abbrev pub IsUnsent : AskerState → Refusal → Type 0
+IsUnsent asker refusal =
+    (refusal ≡ LogDown) ⊎ ((asker.asked + 1 ≡ 2 ^ 64) × (refusal ≡ TicksEnded))

@@ -15,6 +15,7 @@ use Rattle.workers.specs.declared.item.Item.TheVariants as items
 use Rattle.workers.specs.declared.item.Owed.{Owed}
 use Rattle.workers.specs.declared.item.Owed.TheVariants.{Tick, Switch}
 use Rattle.workers.specs.Items.{Goes, end_after, items_end}
+use Rattle.workers.specs.declared.post.Unplayed.{Unplayed}
 use Rattle.workers.specs.Posts.{AskedBatch}
 use Rattle.workers.specs.AskOrder.{asks_of, IsBefore, PlaysInTurn}
 use Rattle.workers.specs.AskChannel.{Taking, with_ask}
@@ -147,17 +148,21 @@ RefusesBatch stuck old reason new =
     ⊎ (HearsDown old reason new
     ⊎ ((new ≡ record old { stopped = true }) × (reason ≡ LogDown) × ((old.stopped ≡ true) ⊎ stuck)))
 
+-- it says of this very ask why it isn't run
+abbrev pub IsUnplayed : AskedBatch → Unplayed → Type 0
+IsUnplayed asked unplayed = (unplayed.session ≡ asked.session) × (unplayed.ask ≡ asked.ask)
+
 -- a batch is run and its tick owed, if the mutator hasn't stopped and the gate lets it, or it is
--- refused
+-- refused, which its session is given the reason of
 abbrev pub RunsBatch : (go stuck : Type 0) → Playing → AskedBatch
-    → Result (Unit {0}) Refusal → Playing → Type 0
+    → Result (Unit {0}) Unplayed → Playing → Type 0
 RunsBatch go stuck old asked given new =
     MatchResult given (λ _. go × (old.stopped ≡ false) × OwesTick old asked new)
-    (λ reason. RefusesBatch stuck old reason new)
+    (λ unplayed. IsUnplayed asked unplayed × RefusesBatch stuck old unplayed.reason new)
 
 -- the next batch was taken, and run or refused
 pub record Plays (go stuck : Type 0) (old : Playing) (asked : AskedBatch)
-    (given : Result (Unit {0}) Refusal) (new : Playing) : Type 0 where
+    (given : Result (Unit {0}) Unplayed) (new : Playing) : Type 0 where
   pub taken : Playing
   pub takes : TakesAsk old asked taken
   pub runs : RunsBatch go stuck taken asked given new
@@ -196,7 +201,7 @@ MarksIfDue old new =
 -- The next batch was taken, with a mark before it and after it if one is due. It was run, and its
 -- tick pushed, or its push was refused. Or the batch was refused.
 pub record Turns (go stuck : Type 0) (old : Playing) (asked : AskedBatch)
-    (given : Result (Unit {0}) Refusal) (new : Playing) : Type 0 where
+    (given : Result (Unit {0}) Unplayed) (new : Playing) : Type 0 where
   pub taken : Playing
   pub before : Playing
   pub ran : Playing

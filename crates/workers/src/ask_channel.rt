@@ -96,7 +96,7 @@ impl AskChannel {
     /// 64 bits is left.
     pub fn session(&mut self) -> Option<Asker>
         ensures number { IfSome result (λ asker. asker
-            ≡ record { session = self.old.next; asked = 0; posted = 0 }) }
+            ≡ record { session = self.old.next; asked = 0; requests = []; posted = 0 }) }
         ensures counts { IfSome result (λ asker. self.new
             ≡ record self.old { next = self.old.next + 1 }) }
         ensures unchanged { IsNone result → self.new ≡ self.old }

@@ -4,6 +4,7 @@ ghost use Rattle.workers.specs.AskOrder.{next_numbers, new_session};
 ghost use Rattle.workers.specs.declared.ask_rule.AskView.TheVariants.{Begins};
 
 use crate::post::Ask;
+use batches::Request;
 use crossbeam_channel::protocol::{Lesson, Outcome, Protocol, Split};
 
 /// The knowledge of an end of the channel. No value of this type is made, and a clause reads an
@@ -13,8 +14,8 @@ pub enum AskView {
     Begins,
     /// This number of sessions has begun.
     Numbers(u64),
-    /// The session of the first number sent the second number of asks.
-    Sends(u64, u64),
+    /// The session of the first number sent the second number of asks, the last for these requests.
+    Sends(u64, u64, [Request; 0]),
     /// These asks were taken.
     Takes([Ask; 0]),
 }

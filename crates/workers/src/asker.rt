@@ -1,5 +1,5 @@
 //! A session's end of the channel to the mutator.
-ghost use Rattle.std.specs.Prelude.{◌≡◌, ◌+◌, IfOk, IfErr, OnOk, Ok, Err, Some, None};
+ghost use Rattle.std.specs.Prelude.{◌≡◌, ◌+◌, [], IfOk, IfErr, OnOk, Ok, Err, Some, None};
 ghost use Rattle.crossbeam_channel.specs.Claims.{view, IsSeatAt};
 ghost use Rattle.crossbeam_channel.specs.Ends.{sends_on};
 ghost use Rattle.workers.specs.declared.ask_rule.AskView.TheVariants.{Sends};
@@ -28,12 +28,19 @@ pub struct Asker {
 }
 
 impl Model for Asker {
+    ghost use Rattle.crossbeam_channel.specs.Claims.{view as seen};
+    ghost use Rattle.workers.specs.AskOrder.{last_requests};
     ghost use Rattle.workers.specs.Asking.{AskerState};
     ghost use Rattle.workers.specs.AskChannel.{IsSession};
 
     ghost Value = { AskerState };
 
-    ghost view = { λ a. record { session = a.session; asked = a.asked; posted = a.posted } };
+    ghost view = { λ a. record {
+      session = a.session;
+      asked = a.asked;
+      requests = last_requests (seen a.pass);
+      posted = a.posted;
+    } };
 
     ghost invariant = { λ a. IsSession a.end a.pass a.session a.asked };
 }
@@ -43,8 +50,8 @@ impl Asker {
     // other has its number.
     pub(crate) fn begin(end: AskSendEnd, pass: Pass<Ask, AskView>, session: u64) -> Self
         requires at { IsSeatAt (sends_on end.end) pass }
-        requires own { view pass ≡ Sends session 0 }
-        ensures { result ≡ record { session = session; asked = 0; posted = 0 } }
+        requires own { view pass ≡ Sends session 0 [] }
+        ensures { result ≡ record { session = session; asked = 0; requests = []; posted = 0 } }
     {
         Asker {
             session,
@@ -64,12 +71,13 @@ impl Asker {
         batch: Batch,
         buffer: Vec<u8>,
         to: ReplySender,
-    ) -> Result<(), Fault>
-        ensures sent { OnOk result (IsAsked self.old self.new) }
-        ensures unsent { IfErr result (λ fault. IsUnsent self.old fault × (self.new ≡ self.old)) }
+    ) -> Result<(), Refusal>
+        ensures sent { OnOk result (IsAsked self.old batch.list self.new) }
+        ensures unsent { IfErr result (λ refusal.
+            IsUnsent self.old refusal × (self.new ≡ self.old)) }
     {
         let Some(number) = self.asked.checked_add(1) else {
-            return Err(self.fault(Refusal::TicksEnded));
+            return Err(Refusal::TicksEnded);
         };
         let ask = Ask::new(self.session, number, batch, buffer, to);
         match self.end.end.send_as::<SendAsk, R>(rt, &mut self.pass, ask) {
@@ -77,7 +85,7 @@ impl Asker {
                 self.asked = number;
                 Ok(())
             }
-            Err(_) => Err(Fault::found(self.session, number, Refusal::LogDown)),
+            Err(_) => Err(Refusal::LogDown),
         }
     }
 
@@ -107,12 +115,12 @@ impl Asker {
             → IsNewPost self.old batch.now.list post → result ≡ Ok post }
         ensures refused { (fault : Fault) → reply ≡ Some (Reply.Fault fault)
             → IsFaultOf self.old fault → result ≡ Err fault }
-        ensures none { reply ≡ None → IfErr result (λ fault. fault.reason ≡ Refusal.LogDown) }
+        ensures none { reply ≡ None → result ≡ Err Fault.Lost }
     {
         match reply {
             Some(Reply::Post(post)) => self.accept(batch, post),
             Some(Reply::Fault(fault)) if fault.is_of(self.session, self.asked) => Err(fault),
-            _ => Err(self.fault(Refusal::LogDown)),
+            _ => Err(Fault::Lost),
         }
     }
 
@@ -124,17 +132,9 @@ impl Asker {
         ensures new { IsNewPost self.old batch.now.list post → result ≡ Ok post }
     {
         if post.tick() <= self.posted || !post.is_for(self.session, self.asked, batch) {
-            return Err(self.fault(Refusal::LogDown));
+            return Err(Fault::Lost);
         }
         self.posted = post.tick();
         Ok(post)
-    }
-
-    // Why the last ask has no post.
-    fn fault(&self, reason: Refusal) -> Fault
-        ensures { result
-            ≡ record { session = self.now.session; ask = self.now.asked; reason = reason } }
-    {
-        Fault::found(self.session, self.asked, reason)
     }
 }

@@ -37,6 +37,6 @@ pub use item_rule::InOrder;
 pub use log_writer::{Log, LogWriter};
 pub use meeting::meet_workers;
 pub use mutator::Mutator;
-pub use post::{Ask, Fault, Post, Refused, Reply, SessionBatch, Waiting};
-pub use reply_slot::{AwaitedReply, ReplySender, ReplySlot};
+pub use post::{Ask, Fault, Post, Reply, SessionBatch, Unplayed, Waiting};
+pub use reply_slot::{AwaitedReply, PlayedSender, Refused, ReplySender, ReplySlot};
 pub use spins::{Counted, Spins};

@@ -167,7 +167,7 @@ impl<D: Disk + Drop, G: Gate + Drop> LogWriter<D, G> {
         self.acked
     }
 
-    // The log is down: reports it to the mutator, and refuses each answer that waits.
+    // The log is down: reports it to the mutator, and loses each answer that waits.
     fn fall<R: Wait>(&mut self, rt: &R)
         requires up { self.old.down ≡ false }
         ensures { self.new ≡ record self.old {
@@ -178,7 +178,7 @@ impl<D: Disk + Drop, G: Gate + Drop> LogWriter<D, G> {
     {
         self.down = true;
         self.reported_down.publish(1);
-        self.answers.refuse_all(rt);
+        self.answers.lose_all(rt);
     }
 
     // Waits for an item, pops it and keeps it.
@@ -249,7 +249,7 @@ impl<D: Disk + Drop, G: Gate + Drop> LogWriter<D, G> {
 
     /// Leaves out the records that the newest open image has, or makes a step of the log, if the
     /// gate lets it. It posts the answers of the ticks that became durable. If the log goes down,
-    /// it refuses each answer that waits.
+    /// it loses each answer that waits.
     pub fn step<R: Wait>(&mut self, rt: &R)
         requires up { self.old.down ≡ false }
         ensures same { WritesOnly self.old self.new }
@@ -275,7 +275,7 @@ impl<D: Disk + Drop, G: Gate + Drop> LogWriter<D, G> {
             self.old.log.b self.new.log.b }
         ensures cause { self.new.down ≡ true → (self.new.log.keeper.down ≡ true)
             ⊎ ((self.new.log ≡ self.old.log) × MayStick G.answers Device) }
-        ensures refused { self.new.down ≡ true
+        ensures lost { self.new.down ≡ true
             → (self.new.acked ≡ self.old.acked) × (self.new.answers ≡ refused self.old.answers) }
     {
         if !passes(rt, &mut self.gate, Place::Device) {
@@ -301,7 +301,7 @@ impl<D: Disk + Drop, G: Gate + Drop> LogWriter<D, G> {
     }
 
     // Steps the log until nothing is left to do or it is down. An answer that still waits then has
-    // no receipt, so it is refused too.
+    // no receipt, so it is lost too.
     fn write_all<R: Wait>(&mut self, rt: &R)
         requires up { self.old.down ≡ false }
         ensures same { WritesOnly self.old self.new }
@@ -330,7 +330,7 @@ impl<D: Disk + Drop, G: Gate + Drop> LogWriter<D, G> {
     }
 
     /// Ends the writing, for callers that have no step left to make. An answer that still waits has
-    /// no receipt, so it is refused, and the log counts as down.
+    /// no receipt, so it is lost, and the log counts as down.
     pub fn settle<R: Wait>(&mut self, rt: &R)
         requires up { self.old.down ≡ false }
         ensures { Settles self.old self.new }
@@ -341,14 +341,14 @@ impl<D: Disk + Drop, G: Gate + Drop> LogWriter<D, G> {
     }
 
     /// Pops an item and keeps it, if there is one and room for it, without waiting. Once the log is
-    /// down it pops an item and refuses its answer. Returns true if it popped one.
+    /// down it pops an item and loses its answer. Returns true if it popped one.
     pub fn pop<R: Wait>(&mut self, rt: &R) -> bool
         requires goes_on { self.old.over ≡ false }
         ensures popped { result ≡ true → (item : Popped) × Pops self.old item self.new }
         ensures none { result ≡ false → self.new ≡ self.old }
     {
         if self.down {
-            return self.answers.is_empty() && self.try_refuse(rt);
+            return self.answers.is_empty() && self.try_lose(rt);
         }
         if self.ring.len() >= QUEUE_RECORDS || self.answers.len() >= QUEUE_RECORDS {
             return false;
@@ -356,8 +356,8 @@ impl<D: Disk + Drop, G: Gate + Drop> LogWriter<D, G> {
         self.try_take(rt)
     }
 
-    // Pops an item and refuses its answer, if there is one: the log is down.
-    fn try_refuse<R: Wait>(&mut self, rt: &R) -> bool
+    // Pops an item and loses its answer, if there is one: the log is down.
+    fn try_lose<R: Wait>(&mut self, rt: &R) -> bool
         requires down { self.old.down ≡ true }
         requires goes_on { self.old.over ≡ false }
         requires none { self.old.answers.waiting ≡ [] }
@@ -374,8 +374,8 @@ impl<D: Disk + Drop, G: Gate + Drop> LogWriter<D, G> {
         }
     }
 
-    // Waits for an item, pops it and refuses its answer: the log is down.
-    fn refuse_next<R: Wait>(&mut self, rt: &R)
+    // Waits for an item, pops it and loses its answer: the log is down.
+    fn lose_next<R: Wait>(&mut self, rt: &R)
         requires down { self.old.down ≡ true }
         requires goes_on { self.old.over ≡ false }
         requires none { self.old.answers.waiting ≡ [] }
@@ -393,7 +393,7 @@ impl<D: Disk + Drop, G: Gate + Drop> LogWriter<D, G> {
 
     /// Waits for an item, and pops it with those after it, as long as there is room. It writes them
     /// to the log, except those that an open image has, and answers the durable ticks. Once the log
-    /// is down it pops an item and refuses it.
+    /// is down it pops an item and loses it.
     pub fn turn<R: Wait>(&mut self, rt: &R)
         requires goes_on { self.old.over ≡ false }
         requires rest { IsAtRest self.old }
@@ -413,7 +413,7 @@ impl<D: Disk + Drop, G: Gate + Drop> LogWriter<D, G> {
         ensures acked { self.old.acked ≤ self.new.acked }
     {
         if self.down {
-            self.refuse_next(rt);
+            self.lose_next(rt);
             return;
         }
         self.fill(rt);

@@ -17,7 +17,8 @@ use crate::batch_run::play;
 use crate::gate::{Gate, Place, passes};
 use crate::item::{Ended, Item, Owed};
 use crate::item_channel::ItemSender;
-use crate::post::{Ask, Refused};
+use crate::post::Ask;
+use crate::reply_slot::Refused;
 use crossbeam_channel::Sender;
 use shared_capture::{Front, Method, SignalIn};
 use std::alloc::Global;
@@ -280,7 +281,7 @@ fn hears_down(heard: &mut SignalIn) -> bool
 
 // Answers a batch that isn't run.
 fn refuse<R: Wait>(rt: &R, ask: Ask, reason: Refusal) -> Result<(), Refused>
-    ensures { result ≡ Err reason }
+    ensures { result ≡ Err (record { session = ask.session; ask = ask.ask; reason = reason }) }
 {
     Err(ask.refuse(rt, reason))
 }

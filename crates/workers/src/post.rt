@@ -1,17 +1,16 @@
 //! A batch on its way: asked for, waiting for its tick to be durable, and posted.
 ghost use Rattle.std.specs.Prelude.{◌≡◌, ◌≤◌, ◌↔◌, true, IsTrue};
-ghost use Rattle.workers.specs.Posts.{IsAnswer};
+ghost use Rattle.workers.specs.Posts.{IsAnswer, IsFaultOfAsk, reason_of};
 ghost use Rattle.workers.specs.Logging.{IsDurable};
 
 use crate::log_writer::Holding;
-use crate::reply_slot::ReplySender;
+use crate::reply_slot::{LastPost, PlayedSender, Refused, ReplySender};
 use action_log::Receipt;
 use batches::{Batch, Request};
 use disk_model::Disk;
 use std::alloc::Global;
 use std::marker::Model;
 use std::mem;
-use std::snapshot::Snapshot;
 use std::sync::Wait;
 use world_actions::Refusal;
 
@@ -54,12 +53,12 @@ impl SessionBatch {
         are_same(self.batch.requests(), batch.requests())
     }
 
-    // Why this ask has no post.
-    fn fault(&self, reason: Refusal) -> Fault
+    // Why this ask isn't run.
+    fn unplayed(&self, reason: Refusal) -> Unplayed
         ensures { result
             ≡ record { session = self.now.session; ask = self.now.ask; reason = reason } }
     {
-        Fault {
+        Unplayed {
             session: self.session,
             ask: self.ask,
             reason,
@@ -133,38 +132,15 @@ impl Ask {
             number,
             asked: self.asked,
             text,
-            to: self.to,
+            to: self.to.played(),
         }
     }
 
-    /// Reports to its session why it isn't run.
+    /// Reports to its session why it isn't run. No tick is of it, since only an ask has a tick.
     pub fn refuse<R: Wait>(self, rt: &R, reason: Refusal) -> Refused
-        ensures { result ≡ reason }
+        ensures { result ≡ record { session = self.session; ask = self.ask; reason = reason } }
     {
-        self.to.send(rt, Reply::Fault(self.asked.fault(reason)));
-        Refused(reason)
-    }
-}
-
-/// Shows that a refusal was sent to its session: only `Ask::refuse` makes one.
-/// Contracts see the reason.
-#[derive(Drop)]
-pub struct Refused(Refusal);
-
-impl Model for Refused {
-    ghost use Rattle.world_actions.specs.declared.refusal.Refusal.{Refusal};
-
-    ghost Value = { Refusal };
-
-    ghost view = { λ refused. refused.0 };
-}
-
-impl Refused {
-    /// The reason that was sent.
-    pub fn reason(&self) -> Refusal
-        ensures { result ≡ self.now }
-    {
-        self.0
+        self.to.refuse(rt, self.asked.unplayed(reason))
     }
 }
 
@@ -229,29 +205,18 @@ impl Post {
     }
 }
 
-/// Why an ask has no post. Only its reply, or the asker that finds none, makes one. Contracts see
-/// the session, which of its asks it was, and the reason.
+/// Why an ask isn't run. Only `Ask::refuse` makes one, which uses the ask up. Contracts see the
+/// session, which of its asks it was, and the reason.
 #[derive(Clone, Copy, Debug, PartialEq, Eq)]
-pub struct Fault {
+pub struct Unplayed {
     session: u64,
     ask: u64,
     reason: Refusal,
 }
 
-impl Fault {
-    /// Why the ask of this number of this session has no post, as the session finds by itself.
-    pub(crate) fn found(session: u64, ask: u64, reason: Refusal) -> Self
-        ensures { result ≡ record { session = session; ask = ask; reason = reason } }
-    {
-        Fault {
-            session,
-            ask,
-            reason,
-        }
-    }
-
-    /// True if it is of the ask of this number of this session.
-    pub(crate) fn is_of(&self, session: u64, ask: u64) -> bool
+impl Unplayed {
+    // True if it is of the ask of this number of this session.
+    fn is_of(&self, session: u64, ask: u64) -> bool
         ensures { IsTrue result ↔ ((self.now.session ≡ session) × (self.now.ask ≡ ask)) }
     {
         self.session == session && self.ask == ask
@@ -264,29 +229,42 @@ impl Fault {
     }
 }
 
+/// Why an ask has no post.
+#[derive(Clone, Copy, Debug, PartialEq, Eq)]
+pub enum Fault {
+    /// It wasn't run: no tick is of it.
+    Unplayed(Unplayed),
+    /// It may have been run: the log is down, or no reply came.
+    Lost,
+}
+
+impl Fault {
+    /// True if it may be of the ask of this number of this session.
+    pub(crate) fn is_of(&self, session: u64, ask: u64) -> bool
+        ensures { IsTrue result ↔ IsFaultOfAsk session ask self.now }
+    {
+        match self {
+            Fault::Unplayed(unplayed) => unplayed.is_of(session, ask),
+            Fault::Lost => true,
+        }
+    }
+
+    /// The reason to print. A lost ask has that of a log that is down.
+    pub fn reason(&self) -> Refusal
+        ensures { result ≡ reason_of self.now }
+    {
+        match self {
+            Fault::Unplayed(unplayed) => unplayed.reason(),
+            Fault::Lost => Refusal::LogDown,
+        }
+    }
+}
+
 /// The reply to a session for a batch.
 #[derive(Drop)]
 pub enum Reply {
     Post(Post),
     Fault(Fault),
-}
-
-/// The tick of the last post, or the one that the ticks began after: only a post raises it. Only
-/// clauses read it.
-#[derive(Drop)]
-pub(crate) struct LastPost {
-    tick: Snapshot<u64>,
-}
-
-impl LastPost {
-    /// No post since this tick.
-    pub(crate) fn none_since(tick: u64) -> Self
-        ensures { result.tick.value ≡ tick }
-    {
-        LastPost {
-            tick: Snapshot::of(&tick),
-        }
-    }
 }
 
 /// The answer of a tick that isn't durable yet. Only it knows the session that it goes to.
@@ -295,7 +273,7 @@ pub struct Waiting {
     number: u64,
     asked: SessionBatch,
     text: Vec<u8>,
-    to: ReplySender,
+    to: PlayedSender,
 }
 
 impl Model for Waiting {
@@ -334,19 +312,17 @@ impl Waiting {
         requires held { IsTrue D.honest → IsDurable D.Disk _holding.now self.number }
         ensures { last.new.tick.value ≡ self.number }
     {
-        last.tick = Snapshot::of(&self.number);
         let (post, to) = self.into_post(receipt);
-        to.send(rt, Reply::Post(post));
+        to.post(rt, post, last);
     }
 
-    /// Reports a fault to its session: the log is down.
-    pub(crate) fn refuse<R: Wait>(self, rt: &R) {
-        self.to
-            .send(rt, Reply::Fault(self.asked.fault(Refusal::LogDown)));
+    /// Reports to its session that it is lost: the log is down.
+    pub(crate) fn lose<R: Wait>(self, rt: &R) {
+        self.to.lose(rt);
     }
 
     // Turns it into its post, with the sender to its session.
-    fn into_post(self, receipt: Receipt) -> (Post, ReplySender)
+    fn into_post(self, receipt: Receipt) -> (Post, PlayedSender)
         requires durable { self.number ≤ receipt }
         ensures post { result.0 ≡ record {
           tick = self.number;

@@ -1,12 +1,14 @@
 //! The slot for the replies to a session, which come one at a time.
 ghost use Rattle.std.specs.Prelude.{◌≡◌, ⊤};
 
-use crate::post::Reply;
+use crate::post::{Fault, Post, Reply, Unplayed};
 use std::alloc::{AllocError, Global};
 use std::hint::spin_loop;
 use std::marker::Model;
+use std::snapshot::Snapshot;
 use std::sync::atomic::{AtomicU64, Ordering};
 use std::sync::{Arc, Mutex, Wait};
+use world_actions::Refusal;
 
 /// Nothing has come.
 const EMPTY: u64 = 0;
@@ -36,9 +38,63 @@ pub struct AwaitedReply {
     slot: Arc<Slot, Global>,
 }
 
-/// The end that goes with an ask. If it is dropped unused, the session finds that no reply comes.
-pub struct ReplySender {
+// The other end. If it is dropped unused, the session finds that no reply comes.
+struct SendEnd {
     slot: Arc<Slot, Global>,
+}
+
+/// The end that goes with an ask. It can say why the ask isn't run, and nothing else.
+#[derive(Drop)]
+pub struct ReplySender {
+    end: SendEnd,
+}
+
+/// The end that goes with a batch that was run. It can post its answer, or say that it is lost.
+#[derive(Drop)]
+pub struct PlayedSender {
+    end: SendEnd,
+}
+
+/// Shows that a refusal was sent to its session: only `ReplySender::refuse` makes one. Contracts
+/// see the refusal.
+#[derive(Drop)]
+pub struct Refused {
+    unplayed: Unplayed,
+}
+
+impl Model for Refused {
+    ghost use Rattle.workers.specs.declared.post.Unplayed.{Unplayed};
+
+    ghost Value = { Unplayed };
+
+    ghost view = { λ refused. refused.unplayed };
+}
+
+impl Refused {
+    /// The reason that was sent.
+    pub fn reason(&self) -> Refusal
+        ensures { result ≡ self.now.reason }
+    {
+        self.unplayed.reason()
+    }
+}
+
+/// The tick of the last post, or the one that the ticks began after: only a post raises it. Only
+/// clauses read it.
+#[derive(Drop)]
+pub(crate) struct LastPost {
+    tick: Snapshot<u64>,
+}
+
+impl LastPost {
+    /// No post since this tick.
+    pub(crate) fn none_since(tick: u64) -> Self
+        ensures { result.tick.value ≡ tick }
+    {
+        LastPost {
+            tick: Snapshot::of(&tick),
+        }
+    }
 }
 
 // Clauses see nothing of an end. The type of a reply carries its promise.
@@ -60,6 +116,12 @@ impl Model for ReplySender {
     ghost view = { λ _. tt };
 }
 
+impl Model for PlayedSender {
+    ghost Value = { ⊤ };
+
+    ghost view = { λ _. tt };
+}
+
 impl ReplySlot {
     /// An empty slot. Only this call takes memory.
     pub fn new(alloc: Global) -> Result<Self, AllocError> {
@@ -76,10 +138,10 @@ impl ReplySlot {
     /// so there is one sender at a time.
     pub fn ask(self) -> Result<(AwaitedReply, ReplySender), AllocError> {
         let ReplySlot { slot } = self;
-        let sender = ReplySender {
+        let end = SendEnd {
             slot: Arc::try_clone(&slot)?,
         };
-        Ok((AwaitedReply { slot }, sender))
+        Ok((AwaitedReply { slot }, ReplySender { end }))
     }
 }
 
@@ -127,15 +189,45 @@ impl AwaitedReply {
 }
 
 impl ReplySender {
-    /// Sends the reply, and wakes its session.
-    pub fn send<R: Wait>(self, rt: &R, reply: Reply) {
+    /// Reports why the ask isn't run, and wakes its session.
+    pub(crate) fn refuse<R: Wait>(self, rt: &R, unplayed: Unplayed) -> Refused
+        ensures { result ≡ unplayed }
+    {
+        self.end.send(rt, Reply::Fault(Fault::Unplayed(unplayed)));
+        Refused { unplayed }
+    }
+
+    /// The sender of a batch that was run.
+    pub(crate) fn played(self) -> PlayedSender {
+        PlayedSender { end: self.end }
+    }
+}
+
+impl PlayedSender {
+    /// Posts the answer, and wakes its session.
+    pub(crate) fn post<R: Wait>(self, rt: &R, post: Post, last: &mut LastPost)
+        ensures { last.new.tick.value ≡ post.tick }
+    {
+        last.tick = Snapshot::of(&post.tick());
+        self.end.send(rt, Reply::Post(post));
+    }
+
+    /// Reports that the answer is lost, and wakes its session.
+    pub(crate) fn lose<R: Wait>(self, rt: &R) {
+        self.end.send(rt, Reply::Fault(Fault::Lost));
+    }
+}
+
+impl SendEnd {
+    // Sends the reply, and wakes its session.
+    fn send<R: Wait>(self, rt: &R, reply: Reply) {
         *self.slot.reply.lock(rt) = Some(reply);
     }
 }
 
-impl Drop for ReplySender {
+impl Drop for SendEnd {
     fn drop(self) {
-        let ReplySender { slot } = self;
+        let SendEnd { slot } = self;
         if slot.state.swap(SENT, Ordering::SeqCst) == ASLEEP {
             slot.state.wake_one();
         }

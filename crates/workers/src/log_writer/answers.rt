@@ -6,7 +6,8 @@ ghost use Rattle.workers.specs.Answering.{AreLater, Posts};
 ghost use Rattle.workers.specs.Logging.{IsDurable};
 
 use super::holding::Holding;
-use crate::post::{LastPost, Waiting};
+use crate::post::Waiting;
+use crate::reply_slot::LastPost;
 use action_log::Receipt;
 use circular_buffer::HeapCircularBuffer;
 use disk_model::Disk;
@@ -41,14 +42,14 @@ impl Given {
         next.post(rt, receipt, holding, &mut self.posted);
     }
 
-    // Answers the next tick by a fault: the log is down.
-    fn refuse<R: Wait>(&mut self, rt: &R, next: Waiting)
+    // Answers the next tick by a fault: it is lost.
+    fn lose<R: Wait>(&mut self, rt: &R, next: Waiting)
         requires { next.number ≡ self.old.answered.value + 1 }
         ensures answered { self.new.answered.value ≡ next.number }
         ensures posted { self.new.posted ≡ self.old.posted }
     {
         self.answered = Snapshot::of(&next.number());
-        next.refuse(rt);
+        next.lose(rt);
     }
 }
 
@@ -128,8 +129,8 @@ impl Answers {
         }
     }
 
-    /// Refuses each answer, oldest first: the log is down.
-    pub(crate) fn refuse_all<R: Wait>(&mut self, rt: &R)
+    /// Loses each answer, oldest first: the log is down.
+    pub(crate) fn lose_all<R: Wait>(&mut self, rt: &R)
         ensures { self.new
             ≡ record self.old {
               waiting = [];
@@ -137,17 +138,17 @@ impl Answers {
             } }
     {
         while let Some(next) = self.waiting.pop_front() {
-            self.given.refuse(rt, next);
+            self.given.lose(rt, next);
         }
     }
 
-    /// Refuses the answer of the next tick while no other waits: the log is down.
-    pub(crate) fn refuse<R: Wait>(&mut self, rt: &R, next: Waiting)
+    /// Loses the answer of the next tick while no other waits: the log is down.
+    pub(crate) fn lose<R: Wait>(&mut self, rt: &R, next: Waiting)
         requires none { self.old.waiting ≡ [] }
         requires next { next.number ≡ self.old.answered + 1 }
         ensures { self.new ≡ record self.old { answered = next.number } }
     {
-        self.given.refuse(rt, next);
+        self.given.lose(rt, next);
     }
 
     fn first_is_durable(&self, receipt: Receipt) -> bool

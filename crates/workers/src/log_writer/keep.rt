@@ -53,7 +53,7 @@ pub(crate) fn keep(
     }
 }
 
-/// Refuses the answer of an item: the log is down. Returns true if the item was the last one.
+/// Loses the answer of an item: the log is down. Returns true if the item was the last one.
 pub(crate) fn lose<R: Wait>(rt: &R, answers: &mut Answers, item: Item) -> bool
     requires none { answers.old.waiting ≡ [] }
     requires next { AreNext answers.old.answered (answers_of item) }
@@ -64,7 +64,7 @@ pub(crate) fn lose<R: Wait>(rt: &R, answers: &mut Answers, item: Item) -> bool
     match item {
         Item::Start(_) | Item::Switch(_) => false,
         Item::Tick(ended) => {
-            answers.refuse(rt, ended.answer);
+            answers.lose(rt, ended.answer);
             false
         }
         Item::Stop => true,

@@ -1,6 +1,6 @@
 use Rattle.std.proofs.Common.{◌≡◌, ◌+◌, length}
 use Rattle.workers.specs.Answering.{AreNext}
-use Rattle.workers.proofs.log_writer.answers.Answers.refuse_all.Given as goal
+use Rattle.workers.proofs.log_writer.answers.Answers.lose_all.Given as goal
 
 abbrev pub invariant-loop-next : goal.invariant-loop-next
 invariant-loop-next g l = record {
